@@ -1,0 +1,4 @@
+pub mod Limits
+pub mod Payload
+pub mod Refusal
+pub mod Verdict

@@ -1,0 +1,71 @@
+-- Document 01, "When the loader says no": each case's number, and what a place prints.
+use Prim.Native.Nat.{ℕ, _+_, _*_, _^_}
+use Rattle.records.specs.declared.refusal.Reason.{Reason}
+use Rattle.records.specs.declared.refusal.Reason.the-variants.{
+  NotLoaded,
+  NotListed,
+  TooMany,
+  BadHeader,
+  NoRoom,
+  Busy,
+  Loaded,
+  Invalid,
+  WrongBase,
+  OutOfRange,
+  Unsupported,
+}
+use Rattle.records.specs.declared.refusal.Place.{Place}
+use Rattle.records.specs.declared.refusal.Place.the-variants.{Nowhere, Section, Relocation, Record}
+use Rattle.records.specs.declared.refusal.Refusal.{Refusal}
+
+-- the table, row by row
+abbrev pub numberOf : Reason → ℕ
+-- "no payload of that name"
+numberOf NotLoaded = 2
+-- "a used symbol or function name isn't in the list"
+numberOf NotListed = 3
+-- "list with nr over 8"
+numberOf TooMany = 7
+-- "file size or header"
+numberOf BadHeader = 8
+-- "no free slot; placed bytes over 8,192"
+numberOf NoRoom = 12
+-- "a job stands: actions 2 to 4, or unload of its payload; work before all are held"
+numberOf Busy = 16
+-- "name loaded already"
+numberOf Loaded = 17
+-- "every other broken rule; wrong status; idx over the count; CPU number; report, tick or work with no job"
+numberOf Invalid = 22
+-- "wrong dependency; revert of one that isn't top"
+numberOf WrongBase = 33
+-- "a 4-byte value out of range"
+numberOf OutOfRange = 34
+-- "as named above": what the loader does not know
+numberOf Unsupported = 95
+
+-- "a place: section, or relocation section and entry, or record; 0 else"
+abbrev pub kindOf : Place → ℕ
+kindOf Nowhere = 0
+kindOf (Section i) = 1
+kindOf (Relocation i e) = 2
+kindOf (Record r) = 3
+
+abbrev pub firstOf : Place → ℕ
+firstOf Nowhere = 0
+firstOf (Section i) = i
+firstOf (Relocation i e) = i
+firstOf (Record r) = r
+
+abbrev pub secondOf : Place → ℕ
+secondOf Nowhere = 0
+secondOf (Section i) = 0
+secondOf (Relocation i e) = e
+secondOf (Record r) = 0
+
+-- a refusal in one number, as the C boundary returns it
+unfoldable pub codeOf : Refusal → ℕ
+codeOf r =
+    numberOf (r .reason)
+    + 2 ^ 8 * kindOf (r .place)
+    + 2 ^ 16 * firstOf (r .place)
+    + 2 ^ 32 * secondOf (r .place)

@@ -1,0 +1,76 @@
+// Why and where a request is refused.
+ghost use mathlib.Core.Path.{_≡_};
+ghost use Prim.Native.Nat.{_<_};
+ghost use Rattle.records.specs.Refusal.{numberOf, codeOf};
+
+// The cases of document 01's table "When the loader says no". specs/Refusal.antt gives each its number.
+pub enum Reason {
+    NotLoaded,
+    NotListed,
+    TooMany,
+    BadHeader,
+    NoRoom,
+    Busy,
+    Loaded,
+    Invalid,
+    WrongBase,
+    OutOfRange,
+    Unsupported,
+}
+
+// Where the fault stands: a section, an entry of a relocation section, a function record, or no place. All count from 0.
+pub enum Place {
+    Nowhere,
+    Section(u16),
+    Relocation(u16, u16),
+    Record(u16),
+}
+
+pub struct Refusal {
+    pub reason: Reason,
+    pub place: Place,
+}
+
+// What a check says: nothing against it, or why not.
+pub enum Verdict {
+    Pass,
+    Refuse(Refusal),
+}
+
+impl Reason {
+    // The number of document 01.
+    pub fn number(self) -> u64
+        ensures { λ r. ⌜ (r ≡ numberOf self) × (r < 256) ⌝ }
+    {
+        match self {
+            Reason::NotLoaded => 2,
+            Reason::NotListed => 3,
+            Reason::TooMany => 7,
+            Reason::BadHeader => 8,
+            Reason::NoRoom => 12,
+            Reason::Busy => 16,
+            Reason::Loaded => 17,
+            Reason::Invalid => 22,
+            Reason::WrongBase => 33,
+            Reason::OutOfRange => 34,
+            Reason::Unsupported => 95,
+        }
+    }
+}
+
+impl Refusal {
+    // The refusal in one number: number, kind of place, and the place's two numbers.
+    pub fn code(self) -> u64
+        ensures { λ r. ⌜ r ≡ codeOf self ⌝ }
+    {
+        let reason = self.reason;
+        let place = self.place;
+        let number = reason.number();
+        match place {
+            Place::Nowhere => number,
+            Place::Section(i) => number + 256 + 65536 * (i as u64),
+            Place::Relocation(i, e) => number + 512 + 65536 * (i as u64) + 4294967296 * (e as u64),
+            Place::Record(r) => number + 768 + 65536 * (r as u64),
+        }
+    }
+}

@@ -1,0 +1,6 @@
+pub mod Addresses
+pub mod Name
+pub mod Number
+pub mod Order
+pub mod Scan
+pub mod Splice

@@ -1,0 +1,143 @@
+-- Laws of `equal` and `orderOf`: equal is the test whether two byte strings are the same, Same is the answer of `orderOf` exactly
+-- where they are, and less is a strict order.
+use Prim.Native.Nat.{ℕ, suc, _+_, _≤_, _<_}
+use mathlib.Core.Path.{_≡_, refl, sym, ap, ap₂, _∙_}
+use mathlib.Core.Bool.{Bool, true, false, _&&_, and-false, and-eq-true-iff, false≢true}
+use mathlib.Core.Logic.{_⊎_, inl, inr, ⊎-elim}
+use mathlib.Core.List.{List, [], _∷_}
+use native.Mathlib.Numerals.{add-one}
+use native.Mathlib.Omega.{arith}
+use borrow.Author.Tests.{eq-eqb, eqb-true, lt-ltb, le-ltb, ltb-true, ltb-false}
+use lib.Dec.{eqb, ltb}
+use lib.ListN.{length, getD, drop, drop-of-length-le}
+use lib.Seq.{drop-cons}
+use Rattle.words.specs.declared.bytes.Order.the-variants.{Less, Same, Greater}
+use Rattle.words.specs.Order.{equal, orderOf, less, allZero}
+
+pub equal-same : (a : List ℕ) → equal a a ≡ true
+unfolding equal
+equal-same [] = refl
+equal-same (x ∷ xs) = rw (eq-eqb x x refl) (equal-same xs)
+
+pub equal-true : (a b : List ℕ) → equal a b ≡ true → a ≡ b
+unfolding equal
+equal-true [] [] h = refl
+equal-true [] (y ∷ ys) h = cc
+equal-true (x ∷ xs) [] h = cc
+equal-true (x ∷ xs) (y ∷ ys) h =
+    let t = and-eq-true-iff (eqb x y) (equal xs ys) .0 h in
+    ap₂ _∷_ (eqb-true x y (t .0)) (equal-true xs ys (t .1))
+
+pub equal-lengths : (a b : List ℕ) → (length a ≡ length b → ⊥) → equal a b ≡ false
+unfolding equal
+equal-lengths [] [] h = absurd (h refl)
+equal-lengths [] (y ∷ ys) h = refl
+equal-lengths (x ∷ xs) [] h = refl
+equal-lengths (x ∷ xs) (y ∷ ys) h = simp (equal-lengths xs ys (λ e. h (ap suc e)), and-false)
+
+-- ---- the first bytes decide, or they are the same
+
+by-order :
+    {P : Type 0} (x y : ℕ) (t u : Bool) → ltb x y ≡ t → ltb y x ≡ u →
+    (x < y → P) → (y < x → P) → (x ≡ y → P) → P
+by-order x y true u p q less greater same = less (ltb-true x y p)
+by-order x y false true p q less greater same = greater (ltb-true y x q)
+by-order x y false false p q less greater same = same (omega (arith, ltb-false x y p, ltb-false y x q))
+
+module _ (x y : ℕ) (xs ys : List ℕ) where
+  first-less : x < y → orderOf (x ∷ xs) (y ∷ ys) ≡ Less
+  unfolding orderOf
+  first-less h = rw (lt-ltb x y h)
+
+  first-greater : y < x → orderOf (x ∷ xs) (y ∷ ys) ≡ Greater
+  unfolding orderOf
+  first-greater h = rw (le-ltb x y (omega arith), lt-ltb y x h)
+
+  first-same : x ≡ y → orderOf (x ∷ xs) (y ∷ ys) ≡ orderOf xs ys
+  unfolding orderOf
+  first-same e = rw (le-ltb x y (omega arith), le-ltb y x (omega arith))
+
+  less-cases : less (x ∷ xs) (y ∷ ys) ≡ true → (x < y) ⊎ ((x ≡ y) × (less xs ys ≡ true))
+  unfolding less
+  less-cases h =
+      by-order x y _ _ refl refl
+      inl
+      (λ g. absurd (false≢true (rw (first-greater g) at h)))
+      (λ e. inr (e, rw (first-same e) at h))
+
+  less-first : x < y → less (x ∷ xs) (y ∷ ys) ≡ true
+  unfolding less
+  less-first h = rw (first-less h)
+
+  less-rest : x ≡ y → less xs ys ≡ true → less (x ∷ xs) (y ∷ ys) ≡ true
+  unfolding less
+  less-rest e h = rw (first-same e) h
+
+pub order-same : (a : List ℕ) → orderOf a a ≡ Same
+unfolding orderOf
+order-same [] = refl
+order-same (x ∷ xs) = first-same x x xs xs refl ∙ order-same xs
+
+pub order-same-equal : (a b : List ℕ) → orderOf a b ≡ Same → a ≡ b
+unfolding orderOf
+order-same-equal [] [] h = refl
+order-same-equal [] (y ∷ ys) h = cc
+order-same-equal (x ∷ xs) [] h = cc
+order-same-equal (x ∷ xs) (y ∷ ys) h =
+    by-order x y _ _ refl refl
+    (λ l. cc (first-less x y xs ys l))
+    (λ g. cc (first-greater x y xs ys g))
+    (λ e. ap₂ _∷_ e (order-same-equal xs ys (sym (first-same x y xs ys e) ∙ h)))
+
+pub less-irreflexive : (a : List ℕ) → less a a ≡ false
+unfolding less
+less-irreflexive a = rw (order-same a)
+
+pub less-transitive : (a b c : List ℕ) → less a b ≡ true → less b c ≡ true → less a c ≡ true
+unfolding less orderOf
+less-transitive [] [] c h g = absurd (false≢true h)
+less-transitive [] (y ∷ ys) [] h g = absurd (false≢true g)
+less-transitive [] (y ∷ ys) (z ∷ zs) h g = refl
+less-transitive (x ∷ xs) [] c h g = absurd (false≢true h)
+less-transitive (x ∷ xs) (y ∷ ys) [] h g = absurd (false≢true g)
+less-transitive (x ∷ xs) (y ∷ ys) (z ∷ zs) h g =
+    ⊎-elim
+    (λ p. ⊎-elim (λ q. less-first x z xs zs (omega arith)) (λ q. less-first x z xs zs (omega arith)) (less-cases y z ys zs g))
+    (λ p. ⊎-elim (λ q. less-first x z xs zs (omega arith)) (λ q. less-rest x z xs zs (omega arith) (less-transitive xs ys zs (p .1) (q .1))) (less-cases y z ys zs g))
+    (less-cases x y xs ys h)
+
+-- ---- a turn of a loop that compares, and where one string has ended
+
+module _ (a b : List ℕ) (i : ℕ) where
+  pub equal-at :
+      i < length a → i < length b →
+      equal (drop i a) (drop i b) ≡ (eqb (getD a i 0) (getD b i 0) && equal (drop (i + 1) a) (drop (i + 1) b))
+  unfolding equal
+  equal-at ha hb = rw (add-one i, drop-cons a i 0 ha, drop-cons b i 0 hb)
+
+  pub order-less : i < length a → i < length b → getD a i 0 < getD b i 0 → orderOf (drop i a) (drop i b) ≡ Less
+  order-less ha hb h = rw (drop-cons a i 0 ha, drop-cons b i 0 hb) (first-less _ _ _ _ h)
+
+  pub order-greater : i < length a → i < length b → getD b i 0 < getD a i 0 → orderOf (drop i a) (drop i b) ≡ Greater
+  order-greater ha hb h = rw (drop-cons a i 0 ha, drop-cons b i 0 hb) (first-greater _ _ _ _ h)
+
+  pub order-further :
+      i < length a → i < length b → getD b i 0 ≤ getD a i 0 → getD a i 0 ≤ getD b i 0 →
+      orderOf (drop i a) (drop i b) ≡ orderOf (drop (i + 1) a) (drop (i + 1) b)
+  order-further ha hb g h = rw (add-one i, drop-cons a i 0 ha, drop-cons b i 0 hb) (first-same _ _ _ _ (omega arith))
+
+  pub order-longer : i < length a → length b ≤ i → orderOf (drop i a) (drop i b) ≡ Greater
+  unfolding orderOf
+  order-longer ha hb = rw (drop-cons a i 0 ha, drop-of-length-le b hb)
+
+  pub order-shorter : length a ≤ i → i < length b → orderOf (drop i a) (drop i b) ≡ Less
+  unfolding orderOf
+  order-shorter ha hb = rw (drop-cons b i 0 hb, drop-of-length-le a ha)
+
+  pub order-ended : length a ≤ i → length b ≤ i → orderOf (drop i a) (drop i b) ≡ Same
+  unfolding orderOf
+  order-ended ha hb = rw (drop-of-length-le a ha, drop-of-length-le b hb)
+
+pub all-zero-at : (s : List ℕ) (i : ℕ) → i < length s → allZero (drop i s) ≡ (eqb (getD s i 0) 0 && allZero (drop (i + 1) s))
+unfolding allZero
+all-zero-at s i h = rw (add-one i, drop-cons s i 0 h)

@@ -1,0 +1,16 @@
+-- `words::address::subtract` meets its contract: only the definition's remainder, with b added, wraps to a.
+use native.Mathlib.Omega.{arith}
+use borrow.Author.Needs.{needs}
+use Rattle.words.specs.Address.{difference}
+use Rattle.words.proofs.address.subtract.Statement.{statement}
+use Rattle.words.proofs.address.subtract.Tie as tie
+
+wrapping-sub-u64-requires : tie.Need-wrapping-sub-u64-requires
+wrapping-sub-u64-requires c κs = search needs
+
+returns : tie.Need-returns
+unfolding difference
+returns c = omega arith
+
+pub subtract-spec : {M : Type 1} → statement M
+subtract-spec = tie.close (tie.spec wrapping-sub-u64-requires returns)

@@ -1,0 +1,7 @@
+pub mod Address
+pub mod Name
+pub mod Number
+pub mod Order
+pub mod Scan
+pub mod Splice
+pub mod Text
