@@ -17,6 +17,8 @@ use Rattle.records.specs.declared.refusal.Reason.the-variants.{
 use Rattle.records.specs.declared.refusal.Place.{Place}
 use Rattle.records.specs.declared.refusal.Place.the-variants.{Nowhere, Section, Relocation, Record}
 use Rattle.records.specs.declared.refusal.Refusal.{Refusal}
+use Rattle.records.specs.declared.refusal.Verdict.{Verdict}
+use Rattle.records.specs.declared.refusal.Verdict.the-variants.{Pass, Refuse}
 
 -- the table, row by row
 abbrev pub numberOf : Reason → ℕ
@@ -69,3 +71,8 @@ codeOf r =
     + 2 ^ 8 * kindOf (r .place)
     + 2 ^ 16 * firstOf (r .place)
     + 2 ^ 32 * secondOf (r .place)
+
+-- a verdict in one number: 0 is no refusal
+abbrev pub verdictCode : Verdict → ℕ
+verdictCode Pass = 0
+verdictCode (Refuse r) = codeOf r

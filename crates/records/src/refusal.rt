@@ -1,7 +1,7 @@
 // Why and where a request is refused.
 ghost use mathlib.Core.Path.{_≡_};
 ghost use Prim.Native.Nat.{_<_};
-ghost use Rattle.records.specs.Refusal.{numberOf, codeOf};
+ghost use Rattle.records.specs.Refusal.{numberOf, codeOf, verdictCode};
 
 // The cases of document 01's table "When the loader says no". specs/Refusal.antt gives each its number.
 pub enum Reason {
@@ -71,6 +71,18 @@ impl Refusal {
             Place::Section(i) => number + 256 + 65536 * (i as u64),
             Place::Relocation(i, e) => number + 512 + 65536 * (i as u64) + 4294967296 * (e as u64),
             Place::Record(r) => number + 768 + 65536 * (r as u64),
+        }
+    }
+}
+
+impl Verdict {
+    // 0 where nothing stands against it, else the refusal in one number.
+    pub fn code(self) -> u64
+        ensures { λ r. ⌜ r ≡ verdictCode self ⌝ }
+    {
+        match self {
+            Verdict::Pass => 0,
+            Verdict::Refuse(r) => r.code(),
         }
     }
 }
