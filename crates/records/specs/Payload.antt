@@ -5,7 +5,7 @@ use lib.ListN.{length, replicate}
 use Rattle.words.specs.Splice.{splice}
 use Rattle.records.specs.declared.payload.BuildId.{BuildId}
 use Rattle.records.specs.declared.payload.Edit.{Edit}
-use Rattle.records.specs.declared.payload.EditKind.the-variants.{Jump, Fill}
+use Rattle.records.specs.declared.payload.EditKind.the-variants.{Fill}
 use Rattle.records.specs.declared.payload.Payload.{Payload}
 use Rattle.records.specs.Limits.{nameMax, idMax, recordsMax}
 

@@ -1,0 +1,217 @@
+-- Laws of the symbol list: what reading an entry says, a turn and the end of the two walks over the entries, and `lookup-listed`:
+-- in a valid list a name is found exactly where an entry has it, with that entry's address.
+use Prim.Native.Nat.{ℕ, zero, suc, _+_, _-_, _≤_, _<_}
+use mathlib.Core.Path.{_≡_, refl, sym, ap, _∙_}
+use mathlib.Core.Bool.{Bool, true, false, cond, _&&_, and-false, and-eq-true-iff, false≢true}
+use mathlib.Core.Logic.{_↔_}
+use mathlib.Core.List.{List, []}
+use native.Mathlib.Nat.{add-sub-cancel-left}
+use native.Mathlib.Omega.{arith}
+use borrow.Author.Tests.{le-leb, lt-leb, leb-true}
+use lib.Dec.{leb, eqb}
+use lib.ListN.{length, take, drop}
+use Rattle.words.specs.Splice.{part}
+use Rattle.words.specs.Order.{equal, less}
+use Rattle.words.proofs.Order.{equal-same, equal-true}
+use Rattle.symbols.specs.declared.Entry.{Entry}
+use Rattle.symbols.specs.declared.Entry.the-variants.{Whole, Broken}
+use Rattle.symbols.specs.declared.Found.{Found}
+use Rattle.symbols.specs.declared.Found.the-variants.{Address, Nothing}
+use Rattle.words.proofs.Order.{less-irreflexive, less-transitive}
+use Rattle.symbols.specs.SymbolList.{
+  addressAt,
+  nameAt,
+  nameLengthAt,
+  nextAt,
+  wholeAt,
+  entryAt,
+  entryIf,
+  entriesFrom,
+  lookupFrom,
+  startFrom,
+  Listed,
+  entryCount,
+  valid,
+  lookup,
+}
+
+-- the first and the last of four tests
+ends : (a b c d : Bool) → (a && b && c && d) ≡ true → (a ≡ true) × (d ≡ true)
+ends true true true d h = (refl, h)
+ends true true false d h = (refl, absurd (false≢true h))
+ends true false c d h = (refl, absurd (false≢true h))
+ends false b c d h = (h, absurd (false≢true h))
+
+-- ---- an entry read
+
+module _ (s : List ℕ) (at : ℕ) where
+  pub whole-holds : nextAt s at ≤ length s → wholeAt s at ≡ true
+  unfolding wholeAt
+  whole-holds h =
+      let head : at + 9 ≤ length s = omega arith in
+      rw (le-leb _ _ head, le-leb _ _ h)
+
+  pub whole-fails : length s < nextAt s at → wholeAt s at ≡ false
+  unfolding wholeAt
+  whole-fails h = rw (lt-leb _ _ h, and-false)
+
+  pub head-fails : length s < at + 9 → wholeAt s at ≡ false
+  unfolding wholeAt
+  head-fails h = rw (lt-leb _ _ h)
+
+  whole-bounds : wholeAt s at ≡ true → nextAt s at ≤ length s
+  unfolding wholeAt
+  whole-bounds h = leb-true _ _ (and-eq-true-iff (leb (at + 9) (length s)) (leb (nextAt s at) (length s)) .0 h .1)
+
+  entry-whole : entryAt s at ≡ true → wholeAt s at ≡ true
+  unfolding entryAt
+  entry-whole h = ends (wholeAt s at) _ _ _ h .0
+
+  name-read : (n : ℕ) → nameLengthAt s at ≡ n → take (at + 9 + n - (at + 9)) (drop (at + 9) s) ≡ nameAt s at
+  unfolding nameAt part
+  name-read n e = rw (add-sub-cancel-left (at + 9) n, e)
+
+-- the answer that the test does not hold
+pub read-broken : (t : Bool) (s : List ℕ) (at : ℕ) {r : Entry} → r ≡ entryIf t s at → r ≡ Broken → t ≡ false
+unfolding entryIf
+read-broken true s at e h = cc
+read-broken false s at e h = refl
+
+-- the answer that it holds, with a name of n bytes
+pub record Read (t : Bool) (s : List ℕ) (at n : ℕ) : Type 0 where
+  pub holds : t ≡ true
+  pub long : nameLengthAt s at ≡ n
+  pub inside : at + 9 + n ≤ length s
+  pub name : take (at + 9 + n - (at + 9)) (drop (at + 9) s) ≡ nameAt s at
+
+module _ (s : List ℕ) (at : ℕ) {r : Entry} {n : ℕ} where
+  answer : (t : Bool) → r ≡ entryIf t s at → r ≡ Whole n → (t ≡ true) × (nameLengthAt s at ≡ n)
+  unfolding entryIf
+  answer true e h = (refl, cc)
+  answer false e h = (cc, cc)
+
+  pub read-whole : r ≡ entryIf (wholeAt s at) s at → r ≡ Whole n → Read (wholeAt s at) s at n
+  read-whole e h =
+      let a = answer (wholeAt s at) e h in
+      record { holds = a .0; long = a .1; inside = omega (arith, whole-bounds s at (a .0)); name = name-read s at n (a .1) }
+
+  pub read-entry : r ≡ entryIf (entryAt s at) s at → r ≡ Whole n → Read (entryAt s at) s at n
+  read-entry e h =
+      let a = answer (entryAt s at) e h in
+      record {
+        holds = a .0;
+        long = a .1;
+        inside = omega (arith, whole-bounds s at (entry-whole s at (a .0)));
+        name = name-read s at n (a .1);
+      }
+
+-- ---- a turn and the end of the walks, at entry i of n
+
+module _ (s : List ℕ) (at i n : ℕ) where
+  pub entries-turn :
+      (last : List ℕ) → i < n →
+      entriesFrom s (n - i) at last
+      ≡ (entryAt s at && less last (nameAt s at) && entriesFrom s (n - (i + 1)) (nextAt s at) (nameAt s at))
+  unfolding entriesFrom
+  entries-turn last h =
+      let left : n - i ≡ suc (n - (i + 1)) = omega arith in
+      rw left
+
+  pub entries-end : (last : List ℕ) → n ≤ i → entriesFrom s (n - i) at last ≡ eqb at (length s)
+  unfolding entriesFrom
+  entries-end last h =
+      let none : n - i ≡ 0 = omega arith in
+      rw none
+
+  pub lookup-turn :
+      (name : List ℕ) → i < n →
+      lookupFrom s name (n - i) at
+      ≡ cond (wholeAt s at)
+      (cond (equal (nameAt s at) name) (Address (addressAt s at)) (lookupFrom s name (n - (i + 1)) (nextAt s at)))
+      Nothing
+  unfolding lookupFrom
+  lookup-turn name h =
+      let left : n - i ≡ suc (n - (i + 1)) = omega arith in
+      rw left
+
+  pub lookup-end : (name : List ℕ) → n ≤ i → lookupFrom s name (n - i) at ≡ Nothing
+  unfolding lookupFrom
+  lookup-end name h =
+      let none : n - i ≡ 0 = omega arith in
+      rw none
+
+-- ---- lookup gives the address of the one entry that has the name
+
+nothing : {a : ℕ} → Nothing ≡ Address a → ⊥
+nothing h = let z : _≡_ {A = ℕ} 0 1 = cc in omega arith
+
+-- what is known where the first of several entries passes
+rise :
+    (s : List ℕ) (at : ℕ) (last : List ℕ) (n : ℕ) → entriesFrom s (suc n) at last ≡ true →
+    (wholeAt s at ≡ true) × (less last (nameAt s at) ≡ true) × (entriesFrom s n (nextAt s at) (nameAt s at) ≡ true)
+unfolding entriesFrom
+rise s at last n h =
+    let r = and-eq-true-iff _ (entriesFrom s n (nextAt s at) (nameAt s at)) .0 h in
+    let l = and-eq-true-iff (entryAt s at) (less last (nameAt s at)) .0 (r .0) in
+    (entry-whole s at (l .0), l .1, r .1)
+
+-- a name is not one that is greater
+differs-if : (a b : List ℕ) (t : Bool) → equal a b ≡ t → less a b ≡ true → t ≡ false
+differs-if a b true e h = sym (rw (equal-true a b e) at h) ∙ less-irreflexive b
+differs-if a b false e h = refl
+
+differs : (a b : List ℕ) → less a b ≡ true → equal a b ≡ false
+differs a b h = differs-if a b _ refl h
+
+module _ (s name : List ℕ) where
+  -- the first of several entries, or the rest, has what was found
+  step-found :
+      {a : ℕ} (n at : ℕ) (t e : Bool) (rest : Found) → equal (nameAt s at) name ≡ e →
+      (rest ≡ Address a → Listed s n (nextAt s at) name a) →
+      cond t (cond e (Address (addressAt s at)) rest) Nothing ≡ Address a → Listed s (suc n) at name a
+  unfolding startFrom
+  step-found n at false e rest same next h = absurd (nothing h)
+  step-found n at true true rest same next h =
+      record { number = 0; counted = omega arith; named = equal-true _ _ same; addressed = cc }
+  step-found n at true false rest same next h =
+      let l = next h in
+      record { number = suc (l .number); counted = omega arith; named = l .named; addressed = l .addressed }
+
+  found-listed : {a : ℕ} (n at : ℕ) → lookupFrom s name n at ≡ Address a → Listed s n at name a
+  unfolding lookupFrom
+  found-listed zero at h = absurd (nothing h)
+  found-listed (suc n) at h =
+      step-found n at (wholeAt s at) _ (lookupFrom s name n (nextAt s at)) refl (found-listed n (nextAt s at)) h
+
+  -- a name that the entries hold is greater than the name before them
+  later :
+      (n at : ℕ) (last : List ℕ) (k : ℕ) → entriesFrom s n at last ≡ true → k < n →
+      less last (nameAt s (startFrom s at k)) ≡ true
+  unfolding entriesFrom startFrom
+  later zero at last k h g = absurd (omega arith)
+  later (suc n) at last zero h g = rise s at last n h .1
+  later (suc n) at last (suc k) h g =
+      let r = rise s at last n h in
+      less-transitive last (nameAt s at) _ (r .1) (later n (nextAt s at) (nameAt s at) k (r .2) (omega arith))
+
+  -- the name of one of the entries is found, and no earlier entry is taken for it
+  listed-found :
+      (n at : ℕ) (last : List ℕ) (k : ℕ) → entriesFrom s n at last ≡ true → k < n → nameAt s (startFrom s at k) ≡ name →
+      lookupFrom s name n at ≡ Address (addressAt s (startFrom s at k))
+  unfolding lookupFrom startFrom
+  listed-found zero at last k h g e = absurd (omega arith)
+  listed-found (suc n) at last zero h g e = rw (rise s at last n h .0, e, equal-same name)
+  listed-found (suc n) at last (suc k) h g e =
+      let r = rise s at last n h in
+      let after : less (nameAt s at) name ≡ true = rw e at (later n (nextAt s at) (nameAt s at) k (r .2) (omega arith)) in
+      rw (r .0, differs _ _ after) (listed-found n (nextAt s at) (nameAt s at) k (r .2) (omega arith) e)
+
+  -- in a valid list, lookup answers an address exactly where an entry has this name and this address
+  pub lookup-listed :
+      (a : ℕ) → valid s ≡ true → (lookup s name ≡ Address a) ↔ Listed s (entryCount s) 7 name a
+  unfolding valid lookup
+  lookup-listed a h =
+      let v = ends (leb 7 (length s)) _ _ (entriesFrom s (entryCount s) 7 []) h in (
+        λ found. found-listed (entryCount s) 7 (rw (v .0) at found),
+        λ l. rw (v .0) (listed-found (entryCount s) 7 [] (l .number) (v .1) (l .counted) (l .named) ∙ ap Address (l .addressed)),
+      )

@@ -1,0 +1,117 @@
+-- `entry_at` meets its contract: each answer is the one of the tests that led there.
+use native.Mathlib.Omega.{arith}
+use borrow.Author.Needs.{needs}
+use borrow.Author.Tests.{le-leb, lt-leb}
+use Rattle.symbols.specs.SymbolList.{wholeAt, entryAt, entryIf}
+use Rattle.symbols.proofs.Laws.{Read, read-broken, read-whole}
+use Rattle.symbols.proofs.entry_at.Statement.{statement}
+use Rattle.symbols.proofs.entry_at.Tie as tie
+
+whole-at-requires : tie.Need-whole-at-requires
+whole-at-requires c κs = search needs
+
+enum-known-name-length : tie.Need-enum-known-name-length
+enum-known-name-length c = search needs
+
+enum-told : tie.Need-enum-told
+enum-told c = search needs
+
+returns : tie.Need-returns
+unfolding entryAt entryIf
+returns c =
+    let a = c .before .before .before .before .args in
+    rw (read-broken (wholeAt (a .list .now) (a .at)) (a .list .now) (a .at) (c .before .before .whole-at .ensures) (c .enum-told .given .1))
+
+-- what `whole_at` found
+read :
+    (c : tie.After-known-told) →
+    let a = c .before .before .before .before .before .args in
+    Read (wholeAt (a .list .now) (a .at)) (a .list .now) (a .at) (c .before .name-length .given .0 .0)
+read c = read-whole _ _ (c .before .before .before .whole-at .ensures) (c .before .name-length .given .1)
+
+returns-2 : tie.Need-returns-2
+unfolding entryAt entryIf
+returns-2 c =
+    let r = read (c .before) in
+    rw (r .holds, r .long, lt-leb _ _ (c .if1 .taken))
+
+returns-3 : tie.Need-returns-3
+unfolding entryAt entryIf
+returns-3 c =
+    let r = read (c .before .before) in
+    rw (r .holds, r .long, le-leb _ _ (c .before .if1 .left), lt-leb _ _ (c .if2 .taken))
+
+add-start : tie.Need-add-start
+add-start c = omega (arith, read (c .before .before) .inside)
+
+add-end : tie.Need-add-end
+add-end c = omega (arith, read (c .before .before) .inside)
+
+sub-find-zero : tie.Need-sub-find-zero
+sub-find-zero c = search needs
+
+part-find-zero-start : tie.Need-part-find-zero-start
+part-find-zero-start c = search needs
+
+part-find-zero-end : tie.Need-part-find-zero-end
+part-find-zero-end c = omega (arith, read (c .before .before) .inside)
+
+find-zero-requires : tie.Need-find-zero-requires
+find-zero-requires c κs = search needs
+
+enum-told-2 : tie.Need-enum-told-2
+enum-told-2 c = search needs
+
+returns-4 : tie.Need-returns-4
+unfolding entryAt entryIf
+returns-4 c =
+    let e = c .before .before .before .before in
+    let r = read (e .before .before) in
+    let found = rw (r .name) at (c .before .before .find-zero .ensures) in
+    rw (
+      r .holds,
+      r .long,
+      le-leb _ _ (e .before .if1 .left),
+      le-leb _ _ (e .if2 .left),
+      ← found,
+      c .enum-told2 .given .1,
+    )
+
+enum-told-3 : tie.Need-enum-told-3
+enum-told-3 c = search needs
+
+returns-5 : tie.Need-returns-5
+unfolding entryAt entryIf
+returns-5 c =
+    let e = c .before .before .before .before in
+    let r = read (e .before .before) in
+    let found = rw (r .name) at (c .before .before .find-zero .ensures) in
+    rw (
+      r .holds,
+      r .long,
+      le-leb _ _ (e .before .if1 .left),
+      le-leb _ _ (e .if2 .left),
+      ← found,
+      c .enum-told3 .given .1,
+    )
+
+pub entry-at-spec : {M : Type 1} → statement M
+entry-at-spec =
+    tie.close
+    (tie.spec
+    whole-at-requires
+    enum-known-name-length
+    enum-told
+    returns
+    returns-2
+    returns-3
+    add-start
+    add-end
+    sub-find-zero
+    part-find-zero-start
+    part-find-zero-end
+    find-zero-requires
+    enum-told-2
+    returns-4
+    enum-told-3
+    returns-5)

@@ -1,0 +1,85 @@
+-- Document 01, "The symbol list". The document's house format is called the symbol list format here.
+use Prim.Native.Nat.{ℕ, zero, suc, _+_, _<_}
+use mathlib.Core.Path.{_≡_}
+use mathlib.Core.Bool.{Bool, cond, not, _&&_}
+use mathlib.Core.List.{List, []}
+use lib.Dec.{leb, eqb}
+use lib.ListN.{length, getD}
+use Rattle.words.specs.Splice.{part}
+use Rattle.words.specs.Number.{beAt}
+use Rattle.words.specs.Name.{hasZero}
+use Rattle.words.specs.Order.{equal, less}
+use Rattle.symbols.specs.declared.Entry.{Entry}
+use Rattle.symbols.specs.declared.Entry.the-variants.{Whole, Broken}
+use Rattle.symbols.specs.declared.Found.{Found}
+use Rattle.symbols.specs.declared.Found.the-variants.{Address, Nothing}
+
+-- "then per entry an 8-byte address, a 1-byte name length (1 to 127), the name": the entry of the list s that begins at position at
+abbrev pub addressAt : List ℕ → ℕ → ℕ
+addressAt s at = beAt 8 s at
+
+abbrev pub nameLengthAt : List ℕ → ℕ → ℕ
+nameLengthAt s at = getD s (at + 8) 0
+
+unfoldable pub nameAt : List ℕ → ℕ → List ℕ
+nameAt s at = part s (at + 9) (nameLengthAt s at)
+
+-- where the next entry begins
+abbrev pub nextAt : List ℕ → ℕ → ℕ
+nextAt s at = at + 9 + nameLengthAt s at
+
+-- the entry's bytes are all there
+unfoldable pub wholeAt : List ℕ → ℕ → Bool
+wholeAt s at = leb (at + 9) (length s) && leb (nextAt s at) (length s)
+
+-- "a 1-byte name length (1 to 127), the name without zero bytes"
+unfoldable pub entryAt : List ℕ → ℕ → Bool
+entryAt s at = wholeAt s at && leb 1 (nameLengthAt s at) && leb (nameLengthAt s at) 127 && not (hasZero (nameAt s at))
+
+-- what reading an entry answers: its name's length, where the test holds
+unfoldable pub entryIf : Bool → List ℕ → ℕ → Entry
+entryIf holds s at = cond holds (Whole (nameLengthAt s at)) Broken
+
+-- "Names strictly rise, compared bytewise; nothing follows the last": n entries from at on, where the name before them is last.
+-- The first entry has the empty name before it, which is less than every name.
+unfoldable pub entriesFrom : List ℕ → ℕ → ℕ → List ℕ → Bool
+entriesFrom s zero at last = eqb at (length s)
+entriesFrom s (suc n) at last = entryAt s at && less last (nameAt s at) && entriesFrom s n (nextAt s at) (nameAt s at)
+
+-- "a 2-byte entry count"
+abbrev pub entryCount : List ℕ → ℕ
+entryCount s = beAt 2 s 5
+
+-- "a 4-byte big-endian count of the bytes that follow, version byte 1, a 2-byte entry count, then per entry .."
+unfoldable pub valid : List ℕ → Bool
+valid s =
+    leb 7 (length s)
+    && eqb (beAt 4 s 0 + 4) (length s)
+    && eqb (getD s 4 0) 1
+    && entriesFrom s (entryCount s) 7 []
+
+-- the address of the first of n whole entries from at on that has this name
+unfoldable pub lookupFrom : List ℕ → List ℕ → ℕ → ℕ → Found
+lookupFrom s name zero at = Nothing
+lookupFrom s name (suc n) at =
+    cond (wholeAt s at)
+    (cond (equal (nameAt s at) name) (Address (addressAt s at)) (lookupFrom s name n (nextAt s at)))
+    Nothing
+
+-- "looked up by name in the list": its address, or it isn't there. Of bytes that are no valid list, the whole entries at the front are searched.
+unfoldable pub lookup : List ℕ → List ℕ → Found
+lookup s name = cond (leb 7 (length s)) (lookupFrom s name (entryCount s) 7) Nothing
+
+-- ---- the entries as a table, which the law `lookup-listed` compares lookup with
+
+-- where the entry that stands k entries after the one at at begins
+unfoldable pub startFrom : List ℕ → ℕ → ℕ → ℕ
+startFrom s at zero = at
+startFrom s at (suc k) = startFrom s (nextAt s at) k
+
+-- one of the n entries from at on has this name and this address
+pub record Listed (s : List ℕ) (n at : ℕ) (name : List ℕ) (address : ℕ) : Type 0 where
+  pub number : ℕ
+  pub counted : number < n
+  pub named : nameAt s (startFrom s at number) ≡ name
+  pub addressed : addressAt s (startFrom s at number) ≡ address
