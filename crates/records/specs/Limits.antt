@@ -35,6 +35,10 @@ nameMin = 2
 abbrev pub nameMax : ℕ
 nameMax = 128
 
+-- "Text: 1 to 16,777,216 bytes"
+abbrev pub textMax : ℕ
+textMax = 16777216
+
 unfoldable pub limits : Limits
 limits =
     record {
@@ -47,4 +51,5 @@ limits =
       «id_max» = idMax;
       «name_min» = nameMin;
       «name_max» = nameMax;
+      «text_max» = textMax;
     }

@@ -49,6 +49,7 @@ pub struct Limits {
     pub id_max: usize,
     pub name_min: usize,
     pub name_max: usize,
+    pub text_max: usize,
 }
 
 impl Payload {
@@ -69,6 +70,8 @@ impl Payload {
     pub const NAME_MIN: usize = 2;
 
     pub const NAME_MAX: usize = 128;
+    // The hypervisor's text, which the edits of a payload lie in.
+    pub const TEXT_MAX: usize = 16777216;
 
     // The limits of the code are those of the definitions.
     pub fn limits() -> Limits
@@ -84,6 +87,7 @@ impl Payload {
             id_max: Payload::ID_MAX,
             name_min: Payload::NAME_MIN,
             name_max: Payload::NAME_MAX,
+            text_max: Payload::TEXT_MAX,
         }
     }
 

@@ -4,3 +4,4 @@ pub mod Number
 pub mod Order
 pub mod Scan
 pub mod Splice
+pub mod Tests

@@ -5,7 +5,7 @@ use borrow.Author.Needs.{needs}
 use borrow.Author.Tests.{leb-true, leb-false, lt-leb}
 use lib.ListN.{length}
 use Rattle.elf.specs.Layout.{note}
-use Rattle.elf.proofs.Tests.{held, refuted}
+use Rattle.words.proofs.Tests.{held, refuted}
 use Rattle.elf.proofs.note_head.Statement.{statement}
 use Rattle.elf.proofs.note_head.Tie as tie
 

@@ -1,0 +1,98 @@
+-- `check_notes` meets its contract: at each turn the notes from `i` on say what all of them say.
+use Prim.Native.Nat.{_-_, _≤_}
+use mathlib.Core.Path.{_≡_, sym, ap, _∙_}
+use mathlib.Core.Logic.{⊎-elim}
+use native.Mathlib.Omega.{arith}
+use borrow.Author.Needs.{needs}
+use Rattle.words.specs.Scan.{scan}
+use Rattle.words.proofs.Scan.{begin, turn, end}
+use Rattle.records.specs.declared.refusal.Verdict.the-variants.{Pass}
+use Rattle.payload.specs.Notes.{noteOk, one-note, noteRules}
+use Rattle.payload.specs.Sections.{noEntry}
+use Rattle.words.proofs.Tests.{held, refuted}
+use Rattle.payload.proofs.notes.check_notes.Statement.{statement}
+use Rattle.payload.proofs.notes.check_notes.Tie as tie
+
+abbrev Inv-loop : tie.InvT-loop
+Inv-loop file count table i₀ i = (i ≤ count) × (noteRules file table count ≡ scan (one-note file table) Pass i (count - i))
+
+abbrev μ-loop : tie.MeasureT-loop
+μ-loop file count table i₀ i = count - i
+
+loop-holds : tie.Need-loop-holds Inv-loop μ-loop
+unfolding noteRules
+loop-holds c = (omega arith, begin _ _ _)
+
+mul-one : tie.Need-mul-one Inv-loop μ-loop
+mul-one c = omega arith
+
+array-copy-out-one : tie.Need-array-copy-out-one Inv-loop μ-loop
+array-copy-out-one c = omega arith
+
+is-note-requires : tie.Need-is-note-requires Inv-loop μ-loop
+is-note-requires c κs = search needs
+
+contents-of-requires : tie.Need-contents-of-requires Inv-loop μ-loop
+contents-of-requires c κs = search needs
+
+note-ok-requires : tie.Need-note-ok-requires Inv-loop μ-loop
+note-ok-requires c κs = search needs
+
+cast-refuse-at : tie.Need-cast-refuse-at Inv-loop μ-loop
+cast-refuse-at c = omega arith
+
+refuse-at-requires : tie.Need-refuse-at-requires Inv-loop μ-loop
+refuse-at-requires c κs = search needs
+
+returns : tie.Need-returns Inv-loop μ-loop
+unfolding noEntry
+returns c =
+    sym
+    (c .before .before .before .before .before .before .before .before .before .loop .inv .1
+    ∙ turn _ _ _ _ (c .before .before .before .before .before .before .before .before .loop-test .taken)
+    ∙ rw (
+      sym (c .before .before .before .before .before .is-note .ensures) ∙ c .before .before .before .before .if1 .taken,
+      refuted (c .before .before .note-ok .ensures ∙ ap noteOk (c .before .before .before .contents-of .ensures)) (c .before .if2 .taken),
+      c .refuse-at .ensures,
+    ))
+
+add-i : tie.Need-add-i Inv-loop μ-loop
+add-i c = omega arith
+
+loop-less : tie.Need-loop-less Inv-loop μ-loop
+loop-less c = omega arith
+
+loop-again : tie.Need-loop-again Inv-loop μ-loop
+unfolding noEntry
+loop-again c = (
+  omega arith,
+  c .before .before .before .before .before .loop .inv .1
+      ∙ turn _ _ _ _ (c .before .before .before .before .loop-test .taken)
+      ∙ ⊎-elim
+      (λ w. rw (sym (c .before .is-note .ensures) ∙ w .0 .taken, held (w .2 .ensures ∙ ap noteOk (w .1 .ensures)) (w .3 .left)))
+      (λ w. rw (sym (c .before .is-note .ensures) ∙ w .left))
+      (c .if1 .came),
+)
+
+returns-2 : tie.Need-returns-2 Inv-loop μ-loop
+returns-2 c = sym (c .before .loop .inv .1 ∙ end _ _ _ _ (c .loop-test .left))
+
+pub check-notes-spec : {M : Type 1} → statement M
+check-notes-spec =
+    tie.close
+    (tie.spec
+    Inv-loop
+    μ-loop
+    loop-holds
+    mul-one
+    array-copy-out-one
+    is-note-requires
+    contents-of-requires
+    note-ok-requires
+    cast-refuse-at
+    refuse-at-requires
+    returns
+    add-i
+    loop-less
+    loop-again
+    returns-2)

@@ -1,0 +1,84 @@
+-- `note_ok` meets its contract: each test is the definition's, at the head that was read.
+use borrow.Author.Needs.{needs}
+use borrow.Author.Tests.{le-leb, lt-leb, eq-eqb, ne-eqb}
+use Rattle.payload.specs.Notes.{noteOk}
+use Rattle.payload.proofs.NoteLaws.{ok-by, all-of-rest}
+use Rattle.words.proofs.Tests.{held, refuted}
+use Rattle.payload.proofs.notes.note_ok.Statement.{statement}
+use Rattle.payload.proofs.notes.note_ok.Tie as tie
+
+returns : tie.Need-returns
+unfolding noteOk
+returns c = simp (lt-leb _ _ (c .if1 .taken))
+
+read-note-requires : tie.Need-read-note-requires
+read-note-requires c κs = search needs
+
+note-head-ok-requires : tie.Need-note-head-ok-requires
+note-head-ok-requires c κs = search needs
+
+returns-2 : tie.Need-returns-2
+returns-2 c = rw (ok-by _ (c .before .before .read-note .ensures .0), le-leb _ _ (c .before .before .before .if1 .left), refuted (c .before .note-head-ok .ensures) (c .if2 .taken))
+
+add-if3 : tie.Need-add-if3
+add-if3 c = search needs
+
+mul-if3 : tie.Need-mul-if3
+mul-if3 c = search needs
+
+add-if3-2 : tie.Need-add-if3-2
+add-if3-2 c = search needs
+
+returns-3 : tie.Need-returns-3
+returns-3 c =
+    rw (
+      ok-by _ (c .before .before .before .read-note .ensures .0),
+      le-leb _ _ (c .before .before .before .before .if1 .left),
+      held (c .before .before .note-head-ok .ensures) (c .before .if2 .left),
+      ne-eqb _ _ (c .if3 .taken),
+    )
+
+add-padding : tie.Need-add-padding
+add-padding c = search needs
+
+sub-all-zero : tie.Need-sub-all-zero
+sub-all-zero c = search needs
+
+part-all-zero-start : tie.Need-part-all-zero-start
+part-all-zero-start c = search needs
+
+part-all-zero-end : tie.Need-part-all-zero-end
+part-all-zero-end c = search needs
+
+all-zero-requires : tie.Need-all-zero-requires
+all-zero-requires c κs = search needs
+
+returns-4 : tie.Need-returns-4
+returns-4 c =
+    rw (
+      ok-by _ (c .before .before .before .before .before .read-note .ensures .0),
+      le-leb _ _ (c .before .before .before .before .before .before .if1 .left),
+      held (c .before .before .before .before .note-head-ok .ensures) (c .before .before .before .if2 .left),
+      eq-eqb _ _ (c .before .before .if3 .left),
+      c .all-zero .ensures,
+      all-of-rest,
+    )
+
+pub note-ok-spec : {M : Type 1} → statement M
+note-ok-spec =
+    tie.close
+    (tie.spec
+    returns
+    read-note-requires
+    note-head-ok-requires
+    returns-2
+    add-if3
+    mul-if3
+    add-if3-2
+    returns-3
+    add-padding
+    sub-all-zero
+    part-all-zero-start
+    part-all-zero-end
+    all-zero-requires
+    returns-4)

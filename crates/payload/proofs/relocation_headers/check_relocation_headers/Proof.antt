@@ -1,0 +1,107 @@
+-- `check_relocation_headers` meets its contract: at each turn the headers from `i` on say what all of them say.
+use Prim.Native.Nat.{ℕ, _-_, _≤_}
+use mathlib.Core.Path.{_≡_, sym, _∙_}
+use mathlib.Core.List.{List, [], _∷_}
+use mathlib.Core.Logic.{⊎-elim}
+use native.Mathlib.Omega.{arith}
+use borrow.Author.Needs.{needs}
+use Rattle.words.specs.Scan.{scan}
+use Rattle.words.proofs.Scan.{begin, turn, end}
+use Rattle.records.specs.declared.refusal.Verdict.the-variants.{Pass}
+use Rattle.payload.specs.RelocationHeaders.{one-relocation-header, relocationHeaderRules}
+use Rattle.payload.specs.Sections.{sectionIn, noEntry}
+use Rattle.payload.specs.declared.kinds.Kind.the-variants.{Relocations}
+use Rattle.payload.proofs.Arms.{this-kind, other-kind}
+use Rattle.words.proofs.Tests.{held, refuted}
+use Rattle.payload.proofs.relocation_headers.check_relocation_headers.Statement.{statement}
+use Rattle.payload.proofs.relocation_headers.check_relocation_headers.Tie as tie
+
+abbrev Inv-loop : tie.InvT-loop
+Inv-loop count symbols table i₀ i =
+    (i ≤ count)
+    × (relocationHeaderRules table count symbols ≡ scan (one-relocation-header table count symbols) Pass i (count - i))
+
+abbrev μ-loop : tie.MeasureT-loop
+μ-loop count symbols table i₀ i = count - i
+
+loop-holds : tie.Need-loop-holds Inv-loop μ-loop
+unfolding relocationHeaderRules
+loop-holds c = (omega arith, begin _ _ _)
+
+mul-one : tie.Need-mul-one Inv-loop μ-loop
+mul-one c = omega arith
+
+array-copy-out-one : tie.Need-array-copy-out-one Inv-loop μ-loop
+array-copy-out-one c = omega arith
+
+enum-told : tie.Need-enum-told Inv-loop μ-loop
+enum-told c = search needs
+
+relocation-header-ok-requires : tie.Need-relocation-header-ok-requires Inv-loop μ-loop
+relocation-header-ok-requires c κs = search needs
+
+cast-refuse-at : tie.Need-cast-refuse-at Inv-loop μ-loop
+cast-refuse-at c = omega arith
+
+refuse-at-requires : tie.Need-refuse-at-requires Inv-loop μ-loop
+refuse-at-requires c κs = search needs
+
+returns : tie.Need-returns Inv-loop μ-loop
+unfolding noEntry
+returns c =
+    let loop = c .before .before .before .before .before .before .before in
+    let kind = sectionIn (loop .before .args .t1) (loop .loop .i) .kind in
+    sym
+    (loop .loop .inv .1
+    ∙ turn _ _ _ _ (c .before .before .before .before .before .before .loop-test .taken)
+    ∙ rw (
+      this-kind kind Relocations (c .before .before .before .before .match .keys1),
+      refuted (c .before .before .relocation-header-ok .ensures) (c .before .if1 .taken),
+      c .refuse-at .ensures,
+    ))
+
+add-i : tie.Need-add-i Inv-loop μ-loop
+add-i c = omega arith
+
+loop-less : tie.Need-loop-less Inv-loop μ-loop
+loop-less c = omega arith
+
+-- the numbers of the kinds but Relocations
+others : List ℕ
+others = 0 ∷ 1 ∷ 2 ∷ 3 ∷ 4 ∷ 5 ∷ 6 ∷ 7 ∷ 9 ∷ 10 ∷ []
+
+loop-again : tie.Need-loop-again Inv-loop μ-loop
+unfolding noEntry others
+loop-again c =
+    let loop = c .before .before .before in
+    let kind = sectionIn (loop .before .args .t1) (loop .loop .i) .kind in (
+      omega arith,
+      loop .loop .inv .1
+          ∙ turn _ _ _ _ (c .before .before .loop-test .taken)
+          ∙ ⊎-elim
+          (λ w. rw (this-kind kind Relocations (w .0 .keys1), held (w .2 .ensures) (w .3 .left)))
+          (λ w. rw (other-kind kind others (w .keys2) Relocations tt))
+          (c .match .came),
+    )
+
+returns-2 : tie.Need-returns-2 Inv-loop μ-loop
+returns-2 c = sym (c .before .loop .inv .1 ∙ end _ _ _ _ (c .loop-test .left))
+
+pub check-relocation-headers-spec : {M : Type 1} → statement M
+check-relocation-headers-spec =
+    tie.close
+    (tie.spec
+    Inv-loop
+    μ-loop
+    loop-holds
+    mul-one
+    array-copy-out-one
+    enum-told
+    relocation-header-ok-requires
+    cast-refuse-at
+    refuse-at-requires
+    returns
+    add-i
+    loop-less
+    loop-again
+    returns-2)

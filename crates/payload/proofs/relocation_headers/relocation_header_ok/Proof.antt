@@ -1,0 +1,57 @@
+-- `relocation_header_ok` meets its contract.
+use borrow.Author.Needs.{needs}
+use borrow.Author.Tests.{lt-ltb, le-ltb, eq-eqb, ne-eqb}
+use Rattle.payload.specs.RelocationHeaders.{relocationHeaderOk}
+use Rattle.payload.specs.Sections.{noEntry}
+use Rattle.payload.proofs.relocation_headers.relocation_header_ok.Statement.{statement}
+use Rattle.payload.proofs.relocation_headers.relocation_header_ok.Tie as tie
+
+returns : tie.Need-returns
+unfolding relocationHeaderOk
+returns c = simp (ne-eqb _ _ (c .if1 .taken))
+
+returns-2 : tie.Need-returns-2
+unfolding relocationHeaderOk
+returns-2 c = simp (eq-eqb _ _ (c .before .before .if1 .left), ne-eqb _ _ (c .if2 .taken))
+
+returns-3 : tie.Need-returns-3
+unfolding relocationHeaderOk
+returns-3 c = simp (eq-eqb _ _ (c .before .before .before .before .if1 .left), eq-eqb _ _ (c .before .before .if2 .left), ne-eqb _ _ (c .if3 .taken))
+
+returns-4 : tie.Need-returns-4
+unfolding relocationHeaderOk
+returns-4 c =
+    simp (eq-eqb _ _ (c .before .before .before .before .before .if1 .left), eq-eqb _ _ (c .before .before .before .if2 .left), eq-eqb _ _ (c .before .if3 .left), le-ltb _ _ (c .if4 .taken))
+
+mul-entry : tie.Need-mul-entry
+mul-entry c = search needs
+
+array-copy-out-entry : tie.Need-array-copy-out-entry
+array-copy-out-entry c = search needs
+
+is-target-requires : tie.Need-is-target-requires
+is-target-requires c κs = search needs
+
+returns-5 : tie.Need-returns-5
+unfolding relocationHeaderOk noEntry
+returns-5 c =
+    simp (
+      eq-eqb _ _ (c .before .before .before .before .before .before .before .if1 .left),
+      eq-eqb _ _ (c .before .before .before .before .before .if2 .left),
+      eq-eqb _ _ (c .before .before .before .if3 .left),
+      lt-ltb _ _ (c .before .before .if4 .left),
+      c .is-target .ensures,
+    )
+
+pub relocation-header-ok-spec : {M : Type 1} → statement M
+relocation-header-ok-spec =
+    tie.close
+    (tie.spec
+    returns
+    returns-2
+    returns-3
+    returns-4
+    mul-entry
+    array-copy-out-entry
+    is-target-requires
+    returns-5)

@@ -1,0 +1,106 @@
+// The two notes: the payload's build-id, and the one that it depends on.
+ghost use mathlib.Core.Path.{_≡_};
+ghost use mathlib.Core.Bool.{true};
+ghost use Prim.Native.Nat.{_≤_};
+ghost use Rattle.records.specs.Limits.{sectionsMax};
+ghost use Rattle.payload.specs.Notes.{noteHeadOk, noteOk, idIn, isNoteKind, noteRules};
+use super::kinds::Kind;
+use super::sections::SectionEntry;
+use super::sections::{self};
+use elf::Note;
+use records::payload::BuildId;
+use records::payload::Payload;
+use records::refusal::Reason;
+use records::refusal::Verdict;
+
+// The note's sizes, type and name.
+fn note_head_ok(head: Note) -> bool
+    ensures { λ r. ⌜ r ≡ noteHeadOk head ⌝ }
+{
+    if head.n_namesz != 4 {
+        return false;
+    }
+    if head.n_descsz < Payload::ID_MIN as u64 {
+        return false;
+    }
+    if (Payload::ID_MAX as u64) < head.n_descsz {
+        return false;
+    }
+    if head.n_type != 3 {
+        return false;
+    }
+    head.name == 0x00554e47
+}
+
+// Whether a section's contents are one note with an id, and nothing more.
+fn note_ok(note: &[u8]) -> bool
+    ensures { λ r. ⌜ r ≡ noteOk (now (note .entry)) ⌝ }
+{
+    if note.len() < 16 {
+        return false;
+    }
+    let head = elf::read_note(note);
+    if !note_head_ok(head) {
+        return false;
+    }
+    let id_length = head.n_descsz as usize;
+    if note.len() != 16 + 4 * ((id_length + 3) / 4) {
+        return false;
+    }
+    let padding = 16 + id_length;
+    words::bytes::all_zero(&note[padding..])
+}
+
+// The id of a note: its bytes, and zeros after them.
+pub(crate) fn id_in(note: &[u8]) -> BuildId
+    requires { ⌜ noteOk (now note) ≡ true ⌝ }
+    ensures { λ r. ⌜ r ≡ idIn (now (note .entry)) ⌝ }
+{
+    let head = elf::read_note(note);
+    let id_length = head.n_descsz as usize;
+    let end = 16 + id_length;
+    let mut bytes = [0u8; Payload::ID_MAX];
+    words::bytes::copy(&mut bytes, 0, &note[16..end]);
+    BuildId {
+        bytes,
+        length: id_length as u32,
+    }
+}
+
+fn is_note(kind: Kind) -> bool
+    ensures { λ r. ⌜ r ≡ isNoteKind kind ⌝ }
+{
+    match kind {
+        Kind::Depends | Kind::BuildId => true,
+        Kind::Null
+        | Kind::Unnamed
+        | Kind::Placed
+        | Kind::Records
+        | Kind::Symbols
+        | Kind::Strings
+        | Kind::Relocations
+        | Kind::Ignored
+        | Kind::Unknown => false,
+    }
+}
+
+// The notes in order, up to the first that is none.
+pub(crate) fn check_notes(file: &[u8], table: [SectionEntry; 64], count: usize) -> Verdict
+    requires { ⌜ count ≤ sectionsMax ⌝ }
+    ensures { λ r. ⌜ r ≡ noteRules (now (file .entry)) table count ⌝ }
+{
+    let mut i = 0;
+    while i < count {
+        let one = table[i];
+        let kind = one.kind;
+        let h = one.header;
+        if is_note(kind) {
+            let note = sections::contents_of(file, h);
+            if !note_ok(note) {
+                return sections::refuse_at(Reason::Invalid, i as u16);
+            }
+        }
+        i += 1;
+    }
+    Verdict::Pass
+}

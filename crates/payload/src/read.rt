@@ -1,0 +1,118 @@
+// A payload's file read up to its notes: refused with number and place, or what the later stages need of it.
+ghost use mathlib.Core.Path.{_≡_};
+ghost use Prim.Native.Nat.{_≤_};
+ghost use Rattle.records.specs.Limits.{sectionsMax};
+ghost use Rattle.records.specs.declared.refusal.Verdict.the-variants.{Pass};
+ghost use mathlib.Core.Bool.{true};
+ghost use Rattle.payload.specs.Notes.{isNoteKind};
+ghost use Rattle.payload.specs.Reading.{tableRules, idOf, refused, accepted, readingOf};
+use super::counts;
+use super::header;
+use super::kinds::Kind;
+use super::notes;
+use super::relocation_headers;
+use super::sections::SectionEntry;
+use super::sections::{self};
+use records::payload::BuildId;
+use records::payload::Payload;
+use records::refusal::Refusal;
+use records::refusal::Verdict;
+
+// What was read: all empty where the verdict refuses.
+pub struct Reading {
+    pub verdict: Verdict,
+    pub count: usize,
+    pub sections: [SectionEntry; 64],
+    // The indices of the symbol table and of the function records.
+    pub symbols: usize,
+    pub records: usize,
+    pub id: BuildId,
+    pub dependency: BuildId,
+}
+
+fn refuse(r: Refusal) -> Reading
+    ensures { λ x. ⌜ x ≡ refused r ⌝ }
+{
+    let none = SectionEntry::none();
+    let no_id = BuildId {
+        bytes: [0u8; Payload::ID_MAX],
+        length: 0,
+    };
+    Reading {
+        verdict: Verdict::Refuse(r),
+        count: 0,
+        sections: [none; 64],
+        symbols: 0,
+        records: 0,
+        id: no_id,
+        dependency: no_id,
+    }
+}
+
+// The rules of the section table, in order.
+fn check_table(file: &[u8], table: [SectionEntry; 64], count: usize) -> Verdict
+    requires { ⌜ count ≤ sectionsMax ⌝ }
+    ensures { λ r. ⌜ r ≡ tableRules (now (file .entry)) table count ⌝ }
+{
+    let first = sections::check_sections(file.len() as u64, table, count);
+    if let Verdict::Refuse(_) = first {
+        return first;
+    }
+    let second = counts::check_counts(table, count);
+    if let Verdict::Refuse(_) = second {
+        return second;
+    }
+    let symbols = counts::index_of(table, count, Kind::Symbols);
+    let third = relocation_headers::check_relocation_headers(table, count, symbols);
+    if let Verdict::Refuse(_) = third {
+        return third;
+    }
+    notes::check_notes(file, table, count)
+}
+
+// The id in the note of a kind.
+fn id_of(file: &[u8], table: [SectionEntry; 64], count: usize, kind: Kind) -> BuildId
+    requires { ⌜ (count ≤ sectionsMax) × (tableRules (now file) table count ≡ Pass) × (isNoteKind kind ≡ true) ⌝ }
+    ensures { λ r. ⌜ r ≡ idOf (now (file .entry)) table count kind ⌝ }
+{
+    let i = counts::index_of(table, count, kind);
+    let one = table[i];
+    notes::id_in(sections::contents_of(file, one.header))
+}
+
+fn accept(file: &[u8], table: [SectionEntry; 64], count: usize) -> Reading
+    requires { ⌜ (count ≤ sectionsMax) × (tableRules (now file) table count ≡ Pass) ⌝ }
+    ensures { λ r. ⌜ r ≡ accepted (now (file .entry)) table count ⌝ }
+{
+    Reading {
+        verdict: Verdict::Pass,
+        count,
+        sections: table,
+        symbols: counts::index_of(table, count, Kind::Symbols),
+        records: counts::index_of(table, count, Kind::Records),
+        id: id_of(file, table, count, Kind::BuildId),
+        dependency: id_of(file, table, count, Kind::Depends),
+    }
+}
+
+// Any bytes: the first rule that is broken, or what was read.
+pub fn read(file: &[u8]) -> Reading
+    ensures { λ r. ⌜ r ≡ readingOf (now (file .entry)) ⌝ }
+{
+    let head = header::check_header(file);
+    if let Verdict::Refuse(r) = head {
+        return refuse(r);
+    }
+    let names = sections::check_name_table(file);
+    if let Verdict::Refuse(r) = names {
+        return refuse(r);
+    }
+    let h = elf::read_file_header(file);
+    let count = h.e_shnum as usize;
+    let table = sections::read_sections(file);
+    let rest = check_table(file, table, count);
+    if let Verdict::Refuse(r) = rest {
+        return refuse(r);
+    }
+    accept(file, table, count)
+}
