@@ -1,13 +1,14 @@
 -- What a file whose rules all pass tells: each stage passes, and each note has its id.
 use Prim.Native.Nat.{ℕ}
-use mathlib.Core.Path.{_≡_, ap, _∙_}
+use mathlib.Core.Path.{_≡_, refl, ap, _∙_}
 use mathlib.Core.Bool.{true, _||_, false≢true}
 use mathlib.Core.List.{List}
 use native.Mathlib.Omega.{arith}
 use borrow.Author.Tests.{eqb-true}
 use lib.Dec.{eqb}
 use lib.ListN.{length}
-use Rattle.records.specs.declared.refusal.Verdict.the-variants.{Pass}
+use Rattle.records.specs.declared.refusal.Verdict.{Verdict}
+use Rattle.records.specs.declared.refusal.Verdict.the-variants.{Pass, Refuse}
 use Rattle.records.proofs.Checks.{then-pass}
 use Rattle.payload.specs.Counts.{countOf, indexOf, countRules}
 use Rattle.payload.specs.Header.{headerRules}
@@ -73,3 +74,12 @@ pub reads-table :
     ss ≡ sections file → n ≡ sectionCount file → readingOf file ≡ readingBy file ss n (tableRules file ss n)
 unfolding readingOf readRules
 reads-table file ss n head names table count = rw (head, names, table, count)
+
+-- the answer's verdict is that of the rules
+pub verdict-read : (file : List ℕ) → readingOf file .verdict ≡ readRules file
+unfolding readingOf
+verdict-read file = by-verdict (readRules file)
+  where
+    by-verdict : (v : Verdict) → readingBy file (sections file) (sectionCount file) v .verdict ≡ v
+    by-verdict Pass = refl
+    by-verdict (Refuse r) = refl
