@@ -1,0 +1,9 @@
+# The note that says which build the payload is for.
+        .section .livepatch.depends, "a", @note
+        .balign 4
+        .long 4, 2f - 1f, 3
+        .asciz "GNU"
+1:      .byte 0x0b, 0xad, 0xc0, 0xde, 0x0b, 0xad, 0xc0, 0xde, 0x0b, 0xad
+        .byte 0x0b, 0xad, 0xc0, 0xde, 0x0b, 0xad, 0xc0, 0xde, 0x0b, 0xad
+2:      .balign 4
+        .section .note.GNU-stack, "", @progbits

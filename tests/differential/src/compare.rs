@@ -1,0 +1,138 @@
+//! One input through both loaders.
+
+use crate::abi;
+use differential::payloads::Input;
+use differential::second::refusal::in_words;
+use differential::second::{self, Surroundings};
+use differential::stated::Stated;
+
+/// Whether the library's prepare is compared too.
+pub const PREPARE: bool = cfg!(feature = "prepare");
+
+/// The answers of one loader, and its buffers after them.
+struct Answers {
+    symbols: u64,
+    file: u64,
+    prepare: u64,
+    buffers: [Vec<u8>; 3],
+}
+
+/// The library's answers to the list and to the payload, its buffers after them, and how the two loaders differ, in
+/// words.
+#[derive(Default)]
+pub struct Outcome {
+    pub symbols: u64,
+    pub payload: u64,
+    pub buffers: [Vec<u8>; 3],
+    pub difference: Option<String>,
+}
+
+/// Bytes that stand in the buffers before a call, so that an untouched buffer is seen.
+fn pattern(len: usize) -> Vec<u8> {
+    (0..len).map(|at| (at as u8).wrapping_mul(31) ^ 0xa5).collect()
+}
+
+/// A copy with other bytes before and after it, which no answer may depend on.
+struct Surrounded {
+    bytes: Vec<u8>,
+}
+
+const MARGIN: usize = 64;
+
+impl Surrounded {
+    fn new(inner: &[u8], fill: u8) -> Surrounded {
+        let mut bytes = vec![fill; MARGIN];
+        bytes.extend(inner);
+        bytes.resize(bytes.len() + MARGIN, fill);
+        Surrounded { bytes }
+    }
+
+    fn inner(&self) -> &[u8] {
+        &self.bytes[MARGIN..self.bytes.len() - MARGIN]
+    }
+}
+
+fn library_answers(input: &Input, fill: u8) -> Answers {
+    let (file, list) = (Surrounded::new(&input.file, fill), Surrounded::new(&input.list, fill));
+    let mut buffers = input.buffers.map(pattern);
+    let mut prepare = 0;
+    if PREPARE {
+        let [image, edits, summary] = &mut buffers;
+        prepare = abi::prepare(file.inner(), list.inner(), input, [image, edits, summary]);
+    }
+    Answers { symbols: abi::check_symbols(list.inner()), file: abi::check_file(file.inner()), prepare, buffers }
+}
+
+fn second_answers(input: &Input) -> Answers {
+    let mut buffers = input.buffers.map(pattern);
+    let mut prepare = 0;
+    if PREPARE {
+        let around = Surroundings { text_base: input.text_base, text_len: input.text_len, slot_base: input.slot_base };
+        let [image, edits, summary] = &mut buffers;
+        prepare = second::prepare_into(&input.file, &input.list, &around, [image, edits, summary]);
+    }
+    Answers { symbols: second::check_symbols(&input.list), file: second::check_file(&input.file), prepare, buffers }
+}
+
+/// Puts an input through both loaders. The fill is what stands around the bytes that the library gets.
+pub fn compare(input: &Input, stated: &Stated, fill: u8) -> Outcome {
+    let library = library_answers(input, fill);
+    let second = match std::panic::catch_unwind(|| second_answers(input)) {
+        Ok(answers) => answers,
+        Err(_) => return Outcome { difference: Some("the second loader panicked".to_string()), ..Outcome::default() },
+    };
+    let calls = [
+        ("check_symbols", stated.symbols, library.symbols, second.symbols),
+        ("check_file", stated.file, library.file, second.file),
+        ("prepare", stated.prepare.filter(|_| PREPARE), library.prepare, second.prepare),
+    ];
+    let answer =
+        calls.into_iter().find_map(|(call, stated, library, second)| answers_differ(call, stated, library, second));
+    let difference = answer.or_else(|| buffers_differ(&library, &second)).or_else(|| not_as_stated(&library, stated));
+    let payload = if PREPARE { library.prepare } else { library.file };
+    Outcome { symbols: library.symbols, payload, buffers: library.buffers, difference }
+}
+
+fn answers_differ(call: &str, stated: Option<u64>, library: u64, second: u64) -> Option<String> {
+    let wanted = stated.unwrap_or(second);
+    if library == second && second == wanted {
+        return None;
+    }
+    let stated = stated.map_or(String::new(), |code| format!(", stated: {}", in_words(code)));
+    Some(format!("{call}: library: {}, second loader: {}{stated}", in_words(library), in_words(second)))
+}
+
+const BUFFERS: [&str; 3] = ["image", "edits", "summary"];
+
+fn buffers_differ(library: &Answers, second: &Answers) -> Option<String> {
+    for (name, (a, b)) in BUFFERS.iter().zip(library.buffers.iter().zip(&second.buffers)) {
+        if let Some(at) = (0..a.len()).find(|&at| a[at] != b[at]) {
+            let some = |bytes: &[u8]| format!("{:02x?}", &bytes[at..bytes.len().min(at + 8)]);
+            let answer = in_words(library.prepare);
+            let (a, b) = (some(a), some(b));
+            return Some(format!(
+                "prepare ({answer}): the {name} differs first at offset {at}: library: {a}, second loader: {b}"
+            ));
+        }
+    }
+    None
+}
+
+fn not_as_stated(answers: &Answers, stated: &Stated) -> Option<String> {
+    if !PREPARE || answers.prepare != 0 {
+        return None;
+    }
+    for (buffer, at, bytes) in &stated.bytes {
+        let is = &answers.buffers[*buffer][*at..*at + bytes.len()];
+        if let Some(off) = (0..bytes.len()).find(|&off| is[off] != bytes[off]) {
+            let shown = |all: &[u8]| format!("{:02x?}", &all[off..all.len().min(off + 8)]);
+            let (is, wanted) = (shown(is), shown(bytes));
+            return Some(format!(
+                "prepare: the {} at offset {}: both loaders: {is}, stated: {wanted}",
+                BUFFERS[*buffer],
+                at + off
+            ));
+        }
+    }
+    None
+}

@@ -1,0 +1,95 @@
+//! ARG: the other arguments: lengths of the buffers, text range, slot base.
+
+use super::{nowhere, Expect::Accepted, Expect::Holds, Fact::*, Table};
+use crate::payloads::{Draft, Record};
+
+/// One fill of text's first byte, named where its address is 0, and no relocations.
+fn fill_first(draft: &mut Draft) {
+    draft.slim();
+    draft.add_bytes("name", ".rodata.name", 1, b"first\0");
+    draft.list = vec![(b"first".to_vec(), draft.text_base)];
+    draft.set_records(&[Record { name: draft.address("name"), ..Record::new(0, 0, 1, 1) }]);
+}
+
+pub fn rows(table: &mut Table) {
+    buffers(table);
+    texts(table);
+    slots(table);
+}
+
+fn buffers(t: &mut Table) {
+    for (buffer, lens) in
+        [(0usize, [0, 1, 4096, 8191, 8193, 65536]), (1, [0, 48, 720, 767, 769, 816]), (2, [0, 16, 64, 79, 81, 160])]
+    {
+        for len in lens {
+            let what = ["image", "edits", "summary"][buffer];
+            t.prepare("ARG-01", format!("{what} buffer of {len} bytes"), nowhere(22), move |d| d.buffers[buffer] = len);
+        }
+    }
+}
+
+fn texts(t: &mut Table) {
+    let lens = [
+        (0, false),
+        (1, true),
+        (2, true),
+        (1 << 24, true),
+        ((1 << 24) + 1, false),
+        (1 << 32, false),
+        ((1 << 32) + 1, false),
+        (u64::MAX, false),
+    ];
+    for (len, good) in lens {
+        t.prepare("ARG-02", format!("text of {len:#x} bytes"), if good { Accepted } else { nowhere(22) }, move |d| {
+            d.text_len = len;
+            fill_first(d);
+        });
+    }
+    let ranges = [
+        (0, 1 << 24, true),
+        (1, 1, true),
+        (u64::MAX, 1, true),
+        (u64::MAX, 2, false),
+        (0u64.wrapping_sub(1 << 24), 1 << 24, true),
+        (1u64.wrapping_sub(1 << 24), 1 << 24, false),
+        (u64::MAX - 4, 5, true),
+        (u64::MAX - 4, 6, false),
+    ];
+    for (base, len, good) in ranges {
+        t.prepare(
+            "ARG-03",
+            format!("text of {len:#x} bytes at {base:#x}"),
+            if good { Accepted } else { nowhere(22) },
+            move |d| {
+                (d.text_base, d.text_len) = (base, len);
+                fill_first(d);
+            },
+        );
+    }
+}
+
+fn slots(t: &mut Table) {
+    let top = 0u64.wrapping_sub(8192);
+    for (base, good) in [
+        (0, false),
+        (1, true),
+        (4096, true),
+        (8192, true),
+        (top - 1, true),
+        (top, true),
+        (top + 1, false),
+        (top + 4096, false),
+        (u64::MAX, false),
+    ] {
+        t.prepare("ARG-04", format!("slot at {base:#x}"), if good { Accepted } else { nowhere(22) }, move |d| {
+            d.slot_base = base;
+            fill_first(d);
+        });
+    }
+    let facts = vec![Edits(1), Edit(0, 0, vec![0x90]), Placed(70)];
+    t.prepare("ARG-04", "slot at an odd address, text at 0", Holds(facts), |d| {
+        d.slot_base = 0x1_0000_0001;
+        d.text_base = 0;
+        fill_first(d);
+    });
+}
