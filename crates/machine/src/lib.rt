@@ -20,13 +20,17 @@ pub enum RelocationType {
     Unknown,
 }
 
-// The sizes that the processor decides.
+// The e_machine of the files for this processor.
+pub const E_MACHINE: u64 = 62;
+// A jump's bytes, and so the least old_size.
+pub const JUMP_LENGTH: u64 = 5;
+// The longest fill.
+pub const FILL_MAX: u64 = 31;
+
+// The numbers above, to be tied to their definitions.
 pub struct Sizes {
-    // The file's e_machine.
     pub machine: u64,
-    // A jump's bytes, and so the least old_size.
     pub jump: u64,
-    // The longest fill.
     pub fill_max: u64,
 }
 
@@ -34,9 +38,9 @@ pub fn machine_sizes() -> Sizes
     ensures { λ r. ⌜ r ≡ sizesOf ⌝ }
 {
     Sizes {
-        machine: 62,
-        jump: 5,
-        fill_max: 31,
+        machine: E_MACHINE,
+        jump: JUMP_LENGTH,
+        fill_max: FILL_MAX,
     }
 }
 
@@ -94,7 +98,7 @@ pub fn in_range(t: RelocationType, v: u64) -> bool
 pub fn displacement(old: u64, new: u64) -> u64
     ensures { λ r. ⌜ r ≡ displacementOf old new ⌝ }
 {
-    words::address::subtract(new, words::address::add(old, 5))
+    words::address::subtract(new, words::address::add(old, JUMP_LENGTH))
 }
 
 // Whether a jump can have this displacement.

@@ -9,6 +9,7 @@ use Rattle.records.specs.Verdict.{must}
 use Rattle.records.specs.declared.refusal.Reason.the-variants.{BadHeader}
 use Rattle.records.specs.declared.refusal.Place.the-variants.{Nowhere}
 use Rattle.records.specs.declared.refusal.Verdict.{Verdict}
+use Rattle.machine.specs.Edits.{machineNumber}
 use Rattle.elf.specs.Layout.{fileHeaderOf}
 use Rattle.elf.specs.declared.FileHeader.{FileHeader}
 
@@ -24,7 +25,7 @@ fieldsOk h =
     && eqb (h .«ei_data») 1
     && eqb (h .«ei_version») 1
     && eqb (h .«e_type») 1
-    && eqb (h .«e_machine») 62
+    && eqb (h .«e_machine») machineNumber
     && eqb (h .«e_version») 1
     && eqb (h .«e_shentsize») 64
     && leb 1 (h .«e_shnum»)

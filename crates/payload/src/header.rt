@@ -27,7 +27,7 @@ fn fields_ok(h: FileHeader) -> bool
     if h.e_type != 1 {
         return false;
     }
-    if h.e_machine != 62 {
+    if h.e_machine != machine::E_MACHINE {
         return false;
     }
     if h.e_version != 1 {
