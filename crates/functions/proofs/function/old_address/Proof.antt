@@ -1,0 +1,35 @@
+-- `old_address` meets its contract.
+use borrow.Author.Needs.{needs}
+use borrow.Author.Tests.{eq-eqb, ne-eqb, le-leb, lt-leb, le-ltb, lt-ltb}
+use Rattle.functions.specs.Records.{oldAddressOf}
+use Rattle.functions.proofs.function.old_address.Statement.{statement}
+use Rattle.functions.proofs.function.old_address.Tie as tie
+
+returns : tie.Need-returns
+unfolding oldAddressOf
+returns c = simp (ne-eqb _ _ (c .if1 .taken))
+
+returns-2 : tie.Need-returns-2
+unfolding oldAddressOf
+returns-2 c = simp (eq-eqb _ _ (c .before .if1 .left), lt-leb _ _ (c .if2 .taken))
+
+returns-3 : tie.Need-returns-3
+unfolding oldAddressOf
+returns-3 c = simp (eq-eqb _ _ (c .before .before .if1 .left), le-leb _ _ (c .before .if2 .left), le-ltb _ _ (c .if3 .taken))
+
+listed-address-requires : tie.Need-listed-address-requires
+listed-address-requires c κs = search needs
+
+returns-4 : tie.Need-returns-4
+unfolding oldAddressOf
+returns-4 c =
+    rw (
+      eq-eqb _ _ (c .before .before .before .if1 .left),
+      le-leb _ _ (c .before .before .if2 .left),
+      lt-ltb _ _ (c .before .if3 .left),
+      c .listed-address .ensures,
+    )
+
+pub old-address-spec : {M : Type 1} → statement M
+old-address-spec =
+    tie.close (tie.spec returns returns-2 returns-3 listed-address-requires returns-4)

@@ -1,0 +1,132 @@
+-- `check_pairs` meets its contract. Each loop's invariant: the scan from its number on is the scan from 0 on.
+use Prim.Native.Nat.{_≤_, _-_, _<_}
+use mathlib.Core.Path.{_≡_, sym, _∙_}
+use mathlib.Core.Bool.{true, false}
+use mathlib.Core.Logic.{_⊎_, ⊎-elim}
+use native.Mathlib.Omega.{arith}
+use borrow.Author.Needs.{needs}
+use lib.ListN.{length}
+use Rattle.words.specs.Scan.{scan}
+use Rattle.words.proofs.Scan.{begin, turn, end}
+use Rattle.records.specs.declared.refusal.Verdict.the-variants.{Pass}
+use Rattle.functions.specs.Pairs.{editIn, touched, one-touch, one-pair, pairRules}
+use Rattle.functions.proofs.FunctionLaws.{copied}
+use Rattle.functions.proofs.pairs.check_pairs.Statement.{statement}
+use Rattle.functions.proofs.pairs.check_pairs.Tie as tie
+
+abbrev Inv-loop : tie.InvT-loop
+Inv-loop count edits j later i₀ i = (i ≤ j) × (touched edits later j ≡ scan (one-touch edits later) false i (j - i))
+
+abbrev μ-loop : tie.MeasureT-loop
+μ-loop count edits j later i₀ i = j - i
+
+abbrev Inv-pairs : tie.InvT-pairs
+Inv-pairs count edits j₀ j = (j ≤ count) × (scan (one-pair edits) Pass 0 count ≡ scan (one-pair edits) Pass j (count - j))
+
+abbrev μ-pairs : tie.MeasureT-pairs
+μ-pairs count edits j₀ j = count - j
+
+pairs-holds : tie.Need-pairs-holds Inv-loop μ-loop Inv-pairs μ-pairs
+pairs-holds c = (omega arith, begin _ _ _)
+
+mul-later : tie.Need-mul-later Inv-loop μ-loop Inv-pairs μ-pairs
+mul-later c = omega arith
+
+array-copy-out-later : tie.Need-array-copy-out-later Inv-loop μ-loop Inv-pairs μ-pairs
+array-copy-out-later c = omega arith
+
+loop-holds : tie.Need-loop-holds Inv-loop μ-loop Inv-pairs μ-pairs
+loop-holds c = (omega arith, begin _ _ _)
+
+mul-earlier : tie.Need-mul-earlier Inv-loop μ-loop Inv-pairs μ-pairs
+mul-earlier c = omega arith
+
+array-copy-out-earlier : tie.Need-array-copy-out-earlier Inv-loop μ-loop Inv-pairs μ-pairs
+array-copy-out-earlier c = omega arith
+
+touching-requires : tie.Need-touching-requires Inv-loop μ-loop Inv-pairs μ-pairs
+touching-requires c κs = search needs
+
+add-i : tie.Need-add-i Inv-loop μ-loop Inv-pairs μ-pairs
+add-i c = omega arith
+
+loop-less : tie.Need-loop-less Inv-loop μ-loop Inv-pairs μ-pairs
+loop-less c = omega arith
+
+loop-again : tie.Need-loop-again Inv-loop μ-loop Inv-pairs μ-pairs
+loop-again c =
+    let es = c .before .before .before .before .before .before .before .before .args .t1 in
+    let i = c .before .before .before .before .loop .i in
+    let within : i < length es = omega arith in (
+      omega arith,
+      c .before .before .before .before .loop .inv .1
+          ∙ turn _ _ _ _ (c .before .before .before .loop-test .taken)
+          ∙ rw (copied es i within, ← c .before .touching .ensures, c .if1 .left),
+    )
+
+add-j : tie.Need-add-j Inv-loop μ-loop Inv-pairs μ-pairs
+add-j c = omega arith
+
+pairs-less : tie.Need-pairs-less Inv-loop μ-loop Inv-pairs μ-pairs
+pairs-less c = omega arith
+
+pairs-again : tie.Need-pairs-again Inv-loop μ-loop Inv-pairs μ-pairs
+pairs-again c =
+    let es = c .before .before .before .before .before .args .t1 in
+    let j = c .before .before .before .before .pairs .j in
+    let within : j < length es = omega arith in (
+      omega arith,
+      c .before .before .before .before .pairs .inv .1
+          ∙ turn _ _ _ _ (c .before .before .before .pairs-test .taken)
+          ∙ rw (copied es j within, c .before .loop .inv .1, end _ _ _ _ (c .loop-test .left)),
+    )
+
+cast-t21 : tie.Need-cast-t21 Inv-loop μ-loop Inv-pairs μ-pairs
+cast-t21 c = omega arith
+
+by-way : {A B P : Type 0} → A ⊎ B → (A → P) → (B → P) → P
+by-way w f g = ⊎-elim f g w
+
+-- the ways out of the outer loop: its own test, and the label
+returns : tie.Need-returns Inv-loop μ-loop Inv-pairs μ-pairs
+unfolding pairRules
+returns c =
+    let es = c .before .before .before .args .t1 in
+    let j = c .before .before .pairs .j in
+    let later : j < length es = omega arith in
+    by-way (c .before .pairs-test .came)
+    (λ w. absurd (omega arith))
+    (λ w.
+    let earlier : w .2 .i < length es = omega (arith, w .3 .taken) in
+    let touches : touched es (editIn es j) j ≡ true =
+    rw (copied es j later) (w .2 .inv .1 ∙ turn _ _ _ _ (w .3 .taken) ∙ rw (copied es (w .2 .i) earlier, ← w .5 .ensures, w .6 .taken)) in
+    rw (c .before .before .pairs .inv .1, turn (one-pair es) Pass _ _ (c .if2 .taken), touches))
+
+returns-2 : tie.Need-returns-2 Inv-loop μ-loop Inv-pairs μ-pairs
+unfolding pairRules
+returns-2 c = sym (c .before .before .pairs .inv .1 ∙ end _ _ _ _ (c .if2 .left))
+
+pub check-pairs-spec : {M : Type 1} → statement M
+check-pairs-spec =
+    tie.close
+    (tie.spec
+    Inv-loop
+    μ-loop
+    Inv-pairs
+    μ-pairs
+    pairs-holds
+    mul-later
+    array-copy-out-later
+    loop-holds
+    mul-earlier
+    array-copy-out-earlier
+    touching-requires
+    add-i
+    loop-less
+    loop-again
+    add-j
+    pairs-less
+    pairs-again
+    cast-t21
+    returns
+    returns-2)

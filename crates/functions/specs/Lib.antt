@@ -1,0 +1,4 @@
+pub mod Edits
+pub mod Functions
+pub mod Pairs
+pub mod Records

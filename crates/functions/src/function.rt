@@ -1,0 +1,75 @@
+// A function record, and the old address that it names.
+ghost use mathlib.Core.Path.{_≡_};
+ghost use Prim.Native.Nat.{_+_, _≤_};
+ghost use lib.ListN.{length};
+ghost use Rattle.functions.specs.Records.{recordOf, oldAddressOf, listedBy};
+ghost use Rattle.elf.specs.Name.{nameIn};
+use records::refusal::Reason;
+use words::bytes;
+
+pub struct FunctionRecord {
+    pub name: u64,
+    pub new_addr: u64,
+    pub old_addr: u64,
+    pub new_size: u64,
+    pub old_size: u64,
+    pub version: u64,
+}
+
+// The old address, or why there is none.
+pub enum OldAddress {
+    At(u64),
+    Refused(Reason),
+}
+
+// The record at `at` of the placed bytes.
+pub(crate) fn read_record(placed: &[u8], at: usize) -> FunctionRecord
+    requires { ⌜ at + 64 ≤ length (now placed) ⌝ }
+    ensures { λ r. ⌜ r ≡ recordOf (now (placed .entry)) at ⌝ }
+{
+    FunctionRecord {
+        name: words::le::read(placed, at, 8),
+        new_addr: words::le::read(placed, at + 8, 8),
+        old_addr: words::le::read(placed, at + 16, 8),
+        new_size: words::le::read(placed, at + 24, 4),
+        old_size: words::le::read(placed, at + 28, 4),
+        version: words::le::read(placed, at + 32, 1),
+    }
+}
+
+// The address of the name that begins at `start` of the placed bytes.
+fn listed_address(placed: &[u8], list: &[u8], start: u64) -> OldAddress
+    ensures { λ r. ⌜ r ≡ listedBy (now (list .entry)) (nameIn (now (placed .entry)) start) ⌝ }
+{
+    let first = start as usize;
+    let bytes::Found::At(end) = elf::name_end(placed, start) else {
+        return OldAddress::Refused(Reason::Invalid);
+    };
+    if end - first < 1 {
+        return OldAddress::Refused(Reason::Invalid);
+    }
+    if 127 < end - first {
+        return OldAddress::Refused(Reason::Invalid);
+    }
+    match symbols::find(list, &placed[first..end]) {
+        symbols::Found::Address(a) => OldAddress::At(a),
+        symbols::Found::Nothing => OldAddress::Refused(Reason::NotListed),
+    }
+}
+
+// The old address of a record: given, or that of a listed name. `base` is the address of the first placed byte.
+pub(crate) fn old_address(base: u64, placed: &[u8], list: &[u8], f: FunctionRecord) -> OldAddress
+    ensures { λ r. ⌜ r ≡ oldAddressOf base (now (placed .entry)) (now (list .entry)) f ⌝ }
+{
+    if f.old_addr != 0 {
+        return OldAddress::At(f.old_addr);
+    }
+    let name = f.name;
+    if name < base {
+        return OldAddress::Refused(Reason::Invalid);
+    }
+    if placed.len() as u64 <= name - base {
+        return OldAddress::Refused(Reason::Invalid);
+    }
+    listed_address(placed, list, name - base)
+}
