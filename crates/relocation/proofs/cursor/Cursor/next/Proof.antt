@@ -1,0 +1,27 @@
+-- `Cursor::next` meets its contract.
+use borrow.Author.Needs.{needs}
+use borrow.Author.Tests.{lt-ltb, le-ltb}
+use Rattle.relocation.specs.Entries.{nextOf}
+use Rattle.relocation.proofs.cursor.Cursor.next.Statement.{statement}
+use Rattle.relocation.proofs.cursor.Cursor.next.Tie as tie
+
+returns : tie.Need-returns
+unfolding nextOf
+returns c = rw (le-ltb _ _ (c .if1 .taken))
+
+mul-read-relocation : tie.Need-mul-read-relocation
+mul-read-relocation c = search needs
+
+read-relocation-requires : tie.Need-read-relocation-requires
+read-relocation-requires c κs = search needs
+
+add-t6 : tie.Need-add-t6
+add-t6 c = search needs
+
+returns-2 : tie.Need-returns-2
+unfolding nextOf
+returns-2 c = rw (lt-ltb _ _ (c .before .if1 .left), c .read-relocation .ensures .0)
+
+pub next-spec : {M : Type 1} → statement M
+next-spec =
+    tie.close (tie.spec returns mul-read-relocation read-relocation-requires add-t6 returns-2)

@@ -1,0 +1,155 @@
+-- `field_of` meets its contract: the tests, in the order type, field, symbol, range, decide those of `fieldOf`.
+use Prim.Native.Nat.{ℕ, _+_}
+use mathlib.Core.Path.{_≡_, refl, _∙_}
+use mathlib.Core.List.{[], _∷_}
+use native.Mathlib.Omega.{arith}
+use borrow.Author.Needs.{needs}
+use borrow.Author.Tests.{leb-true}
+use lib.Dec.{leb}
+use types.Run.{miss}
+use Rattle.words.proofs.Tests.{held, refuted}
+use Rattle.elf.specs.declared.Relocation.{Relocation}
+use Rattle.machine.proofs.Arms.{In}
+use Rattle.machine.specs.Relocations.{widthOf}
+use Rattle.machine.specs.declared.RelocationType.{RelocationType}
+use Rattle.machine.specs.declared.RelocationType.the-variants.{Nothing, Absolute, Relative, Unknown}
+use Rattle.relocation.specs.Linking.{Linking}
+use Rattle.relocation.specs.Relocating.{inField, byType, fieldOf}
+use Rattle.relocation.proofs.fields.field_of.Statement.{statement}
+use Rattle.relocation.proofs.fields.field_of.Tie as tie
+
+-- a type that is neither `Nothing` nor `Unknown` has a field
+has-field :
+    (l : Linking) (target size : ℕ) (r : Relocation) (t : RelocationType) → In (1 ∷ 2 ∷ 3 ∷ []) t → In (0 ∷ 1 ∷ 2 ∷ []) t →
+    byType l target size r t ≡ inField l target size r t
+has-field l target size r Nothing something known = absurd (miss (1 ∷ 2 ∷ 3 ∷ []) 0 tt something)
+has-field l target size r Absolute something known = refl
+has-field l target size r Relative something known = refl
+has-field l target size r Unknown something known = absurd (miss (0 ∷ 1 ∷ 2 ∷ []) 3 tt known)
+
+relocation-type-requires : tie.Need-relocation-type-requires
+relocation-type-requires c κs = search needs
+
+enum-told : tie.Need-enum-told
+enum-told c = search needs
+
+returns : tie.Need-returns
+unfolding fieldOf
+returns c = rw (← c .before .before .relocation-type .ensures, c .enum-told .given .1)
+
+enum-told-2 : tie.Need-enum-told-2
+enum-told-2 c = search needs
+
+returns-2 : tie.Need-returns-2
+unfolding fieldOf
+returns-2 c = rw (← c .before .before .before .relocation-type .ensures, c .enum-told2 .given .1)
+
+width-requires : tie.Need-width-requires
+width-requires c κs = search needs
+
+lies-within-requires : tie.Need-lies-within-requires
+lies-within-requires c κs = search needs
+
+-- whether the field lies within its section, tested
+tested :
+    (c : tie.After-lies-within) →
+    let type = c .before .before .before .before in
+    let a = type .before .before .before .before .before .before .args in
+    c .lies-within .result ≡ leb (a .r .«r_offset» + widthOf (type .relocation-type .result)) (a .size)
+tested c = rw (c .before .width .ensures) at (c .lies-within .ensures)
+
+returns-3 : tie.Need-returns-3
+unfolding fieldOf
+returns-3 c =
+    let known = c .before .before .before in
+    rw (
+      ← known .before .before .relocation-type .ensures,
+      has-field _ _ _ _ _ (known .before .match .keys2) (known .match2 .keys2),
+      refuted (tested (c .before)) (c .if1 .taken),
+    )
+
+mul-start : tie.Need-mul-start
+mul-start c = search needs
+
+shared-slice-read-start : tie.Need-shared-slice-read-start
+shared-slice-read-start c = search needs
+
+symbol-value-requires : tie.Need-symbol-value-requires
+symbol-value-requires c κs = search needs
+
+enum-known-reason : tie.Need-enum-known-reason
+enum-known-reason c = search needs
+
+enum-known-s : tie.Need-enum-known-s
+enum-known-s c = search needs
+
+add-requires : tie.Need-add-requires
+add-requires c κs = search needs
+
+add-requires-2 : tie.Need-add-requires-2
+add-requires-2 c κs = search needs
+
+add-store : tie.Need-add-store
+add-store c =
+    let fits = c .before .before .before .before .before .before .before .before in
+    omega (arith, leb-true, held (tested (fits .before)) (fits .if1 .left))
+
+value-requires : tie.Need-value-requires
+value-requires c κs = search needs
+
+store-requires : tie.Need-store-requires
+store-requires c κs = search needs
+
+returns-4 : tie.Need-returns-4
+unfolding fieldOf
+returns-4 c =
+    let fits = c .before .before .before .before .before in
+    let known = fits .before .before .before in
+    rw (
+      ← known .before .before .relocation-type .ensures,
+      has-field _ _ _ _ _ (known .before .match .keys2) (known .match2 .keys2),
+      held (tested (fits .before)) (fits .if1 .left),
+      ← c .before .before .before .symbol-value .ensures,
+      c .before .reason .given .1,
+    )
+
+returns-5 : tie.Need-returns-5
+unfolding fieldOf
+returns-5 c =
+    let place = c .before .before .before in
+    let symbol = place .before .before .before in
+    let fits = symbol .before .before .before .before in
+    let known = fits .before .before .before in
+    rw (
+      ← known .before .before .relocation-type .ensures,
+      has-field _ _ _ _ _ (known .before .match .keys2) (known .match2 .keys2),
+      held (tested (fits .before)) (fits .if1 .left),
+      ← symbol .before .before .symbol-value .ensures,
+      symbol .s .given .1,
+    )
+    (c .store .ensures ∙ rw (c .before .value .ensures, place .add2 .ensures, place .before .add .ensures))
+
+pub field-of-spec : {M : Type 1} → statement M
+field-of-spec =
+    tie.close
+    (tie.spec
+    relocation-type-requires
+    enum-told
+    returns
+    enum-told-2
+    returns-2
+    width-requires
+    lies-within-requires
+    returns-3
+    mul-start
+    shared-slice-read-start
+    symbol-value-requires
+    enum-known-reason
+    enum-known-s
+    add-requires
+    add-requires-2
+    add-store
+    value-requires
+    store-requires
+    returns-4
+    returns-5)

@@ -1,0 +1,89 @@
+-- `relocate` meets its contract: at each turn the sections from `i` on, over the bytes as they are, give what all of them give.
+use Prim.Native.Nat.{_-_, _≤_}
+use mathlib.Core.Path.{_≡_, refl, sym, _∙_}
+use native.Mathlib.Omega.{arith}
+use borrow.Author.Needs.{needs}
+use lib.ListN.{length}
+use Rattle.relocation.specs.Relocating.{linkingOf, relocateFrom, relocateAll}
+use Rattle.relocation.proofs.RelocateLaws.{sections-turn, sections-end}
+use Rattle.relocation.proofs.relocate.relocate.Statement.{statement}
+use Rattle.relocation.proofs.relocate.relocate.Tie as tie
+
+abbrev Inv-loop : tie.InvT-loop
+Inv-loop image₀ file table count symbols base offsets limits list i₀ image i =
+    let l = linkingOf base file table count symbols offsets limits list in
+    (i ≤ count)
+    × (length image ≡ length image₀)
+    × (relocateAll l file table count image₀ ≡ relocateFrom l file table i (count - i) image)
+
+abbrev μ-loop : tie.MeasureT-loop
+μ-loop image₀ file table count symbols base offsets limits list i₀ image i = count - i
+
+loop-holds : tie.Need-loop-holds Inv-loop μ-loop
+unfolding relocateAll
+loop-holds c =
+    let count = c .before .before .before .before .before .args .count in
+    let all : count - 0 ≡ count = omega arith in
+    (omega arith, refl, rw all)
+
+relocate-section-requires : tie.Need-relocate-section-requires Inv-loop μ-loop
+relocate-section-requires c κs =
+    let loop = c .before .before in
+    (rw (loop .loop .inv .1) (loop .before .before .before .before .before .before .pre), c .before .loop-test .taken)
+
+enum-told : tie.Need-enum-told Inv-loop μ-loop
+enum-told c = search needs
+
+same-length : tie.Need-same-length Inv-loop μ-loop
+same-length c = omega arith
+
+returns : tie.Need-returns Inv-loop μ-loop
+returns c =
+    let loop = c .before .before .before .before .before .before .before in
+    sym
+    (loop .loop .inv .2
+    ∙ sections-turn _ _ _ _ _ _ (c .before .before .before .before .before .before .loop-test .taken)
+    ∙ rw (← c .before .before .before .before .relocate-section .ensures, c .enum-told .given .1))
+
+enum-told-2 : tie.Need-enum-told-2 Inv-loop μ-loop
+enum-told-2 c = search needs
+
+add-i : tie.Need-add-i Inv-loop μ-loop
+add-i c = omega arith
+
+loop-less : tie.Need-loop-less Inv-loop μ-loop
+loop-less c = omega arith
+
+loop-again : tie.Need-loop-again Inv-loop μ-loop
+loop-again c =
+    let loop = c .before .before .before .before .before .before .before in (
+      omega arith,
+      omega arith,
+      loop .loop .inv .2
+          ∙ sections-turn _ _ _ _ _ _ (c .before .before .before .before .before .before .loop-test .taken)
+          ∙ rw (← c .before .before .before .before .relocate-section .ensures, c .enum-told2 .given .1),
+    )
+
+same-length-2 : tie.Need-same-length-2 Inv-loop μ-loop
+same-length-2 c = omega arith
+
+returns-2 : tie.Need-returns-2 Inv-loop μ-loop
+returns-2 c = sym (c .before .loop .inv .2 ∙ sections-end _ _ _ _ _ _ (c .loop-test .left))
+
+pub relocate-spec : {M : Type 1} → statement M
+relocate-spec =
+    tie.close
+    (tie.spec
+    Inv-loop
+    μ-loop
+    loop-holds
+    relocate-section-requires
+    enum-told
+    same-length
+    returns
+    enum-told-2
+    add-i
+    loop-less
+    loop-again
+    same-length-2
+    returns-2)

@@ -1,0 +1,80 @@
+-- `symbol_value` meets its contract: what reading the table answers decides whether the number lies in it.
+use Prim.Native.Nat.{ℕ, _+_}
+use mathlib.Core.Path.{_≡_, refl, sym, _∙_}
+use mathlib.Core.Bool.{Bool, true, false, cond}
+use mathlib.Core.List.{List}
+use borrow.Author.Needs.{needs}
+use borrow.Author.Tests.{eq-eqb, ne-eqb}
+use lib.Dec.{leb}
+use lib.ListN.{length}
+use Rattle.elf.specs.Layout.{symbolOf, symbol}
+use Rattle.elf.specs.declared.Symbol.{Symbol}
+use Rattle.elf.specs.declared.SymbolRead.the-variants.{Whole, Outside}
+use Rattle.relocation.specs.Symbols.{symbolValue}
+use Rattle.relocation.proofs.values.symbol_value.Statement.{statement}
+use Rattle.relocation.proofs.values.symbol_value.Tie as tie
+
+-- what a symbol that was read, or none, says of the test and of the symbol that is there
+read-outside : (t : Bool) (there : Symbol) → cond t (Whole there) Outside ≡ Outside → t ≡ false
+read-outside true there h = cc
+read-outside false there h = refl
+
+read-whole : (t : Bool) (there : Symbol) {s : Symbol} → cond t (Whole there) Outside ≡ Whole s → (t ≡ true) × (there ≡ s)
+read-whole true there h = (refl, cc)
+read-whole false there h = (cc, cc)
+
+module _ (table : List ℕ) (at : ℕ) where
+  outside : symbol table at ≡ Outside → leb (at + 24) (length table) ≡ false
+  unfolding symbol
+  outside h = read-outside _ (symbolOf table at) h
+
+  whole : {s : Symbol} → symbol table at ≡ Whole s → (leb (at + 24) (length table) ≡ true) × (symbolOf table at ≡ s)
+  unfolding symbol
+  whole h = read-whole _ (symbolOf table at) h
+
+returns : tie.Need-returns
+unfolding symbolValue
+returns c = rw (eq-eqb _ 0 (c .if1 .taken))
+
+mul-symbol-at : tie.Need-mul-symbol-at
+mul-symbol-at c = search needs
+
+symbol-at-requires : tie.Need-symbol-at-requires
+symbol-at-requires c κs = search needs
+
+enum-known-s : tie.Need-enum-known-s
+enum-known-s c = search needs
+
+enum-told : tie.Need-enum-told
+enum-told c = search needs
+
+returns-2 : tie.Need-returns-2
+unfolding symbolValue
+returns-2 c =
+    let read = c .before .before in
+    let none = outside _ _ (sym (read .symbol-at .ensures) ∙ c .enum-told .given .1) in
+    rw (ne-eqb _ 0 (read .before .if1 .left), none)
+
+value-by-requires : tie.Need-value-by-requires
+value-by-requires c κs = search needs
+
+returns-3 : tie.Need-returns-3
+unfolding symbolValue
+returns-3 c =
+    let known = c .before .before in
+    let read = known .before .before in
+    let there = whole _ _ (sym (read .symbol-at .ensures) ∙ known .s .given .1) in
+    rw (ne-eqb _ 0 (read .before .if1 .left), there .0, there .1) (c .value-by .ensures)
+
+pub symbol-value-spec : {M : Type 1} → statement M
+symbol-value-spec =
+    tie.close
+    (tie.spec
+    returns
+    mul-symbol-at
+    symbol-at-requires
+    enum-known-s
+    enum-told
+    returns-2
+    value-by-requires
+    returns-3)

@@ -1,0 +1,43 @@
+-- `value_by` meets its contract.
+use borrow.Author.Needs.{needs}
+use borrow.Author.Tests.{eq-eqb, ne-eqb, le-leb, lt-leb}
+use Rattle.relocation.specs.Symbols.{valueBy}
+use Rattle.relocation.proofs.values.value_by.Statement.{statement}
+use Rattle.relocation.proofs.values.value_by.Tie as tie
+
+returns : tie.Need-returns
+unfolding valueBy
+returns c = rw (eq-eqb _ 0xfff1 (c .if1 .taken))
+
+undefined-value-requires : tie.Need-undefined-value-requires
+undefined-value-requires c κs = search needs
+
+returns-2 : tie.Need-returns-2
+unfolding valueBy
+returns-2 c =
+    rw (ne-eqb _ 0xfff1 (c .before .before .if1 .left), eq-eqb _ 0 (c .before .if2 .taken)) (c .undefined-value .ensures)
+
+returns-3 : tie.Need-returns-3
+unfolding valueBy
+returns-3 c = rw (ne-eqb _ 0xfff1 (c .before .before .if1 .left), ne-eqb _ 0 (c .before .if2 .left), le-leb 0xff00 _ (c .if3 .taken))
+
+defined-value-requires : tie.Need-defined-value-requires
+defined-value-requires c κs = search needs
+
+returns-4 : tie.Need-returns-4
+unfolding valueBy
+returns-4 c =
+    let tests = c .before in
+    rw (ne-eqb _ 0xfff1 (tests .before .before .if1 .left), ne-eqb _ 0 (tests .before .if2 .left), lt-leb 0xff00 _ (tests .if3 .left))
+    (c .defined-value .ensures)
+
+pub value-by-spec : {M : Type 1} → statement M
+value-by-spec =
+    tie.close
+    (tie.spec
+    returns
+    undefined-value-requires
+    returns-2
+    returns-3
+    defined-value-requires
+    returns-4)

@@ -1,0 +1,4 @@
+pub mod Entries
+pub mod Linking
+pub mod Relocating
+pub mod Symbols
