@@ -2,6 +2,7 @@
 use Prim.Native.Nat.{_<_}
 use mathlib.Core.Path.{_≡_, _∙_}
 use mathlib.Core.Bool.{true}
+use native.Mathlib.Nat.{le-trans}
 use native.Mathlib.Omega.{arith}
 use borrow.Author.Needs.{needs}
 use Rattle.words.proofs.Tests.{held, refuted}
@@ -89,7 +90,7 @@ relocate-entries-requires c κs =
       linkable .all-limits,
       target-below tested,
       linkable .inside _ (start .pre .1) (made tested),
-      rw (c .before .contents-of3 .ensures) (omega (arith, contents-short (start .args .file .now) (sectionIn (start .args .t3) (start .args .i) .header))),
+      rw (c .before .contents-of3 .ensures) (le-trans (contents-short _ _) (linkable .short)),
     )
 
 same-length : tie.Need-same-length
