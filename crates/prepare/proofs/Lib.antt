@@ -1,3 +1,4 @@
 pub mod BuildLaws
+pub mod EditLaws
 pub mod OutcomeLaws
 pub mod PrepareLaws

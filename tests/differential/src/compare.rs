@@ -15,6 +15,8 @@ struct Answers {
     file: u64,
     prepare: u64,
     buffers: [Vec<u8>; 3],
+    /// Whether a byte beside a buffer was written.
+    strayed: bool,
 }
 
 /// The library's answers to the list and to the payload, its buffers after them, and how the two loaders differ, in
@@ -32,7 +34,7 @@ fn pattern(len: usize) -> Vec<u8> {
     (0..len).map(|at| (at as u8).wrapping_mul(31) ^ 0xa5).collect()
 }
 
-/// A copy with other bytes before and after it, which no answer may depend on.
+/// Bytes with others before and after them, which no answer may depend on and no call may change.
 struct Surrounded {
     bytes: Vec<u8>,
 }
@@ -50,17 +52,30 @@ impl Surrounded {
     fn inner(&self) -> &[u8] {
         &self.bytes[MARGIN..self.bytes.len() - MARGIN]
     }
+
+    fn inner_mut(&mut self) -> &mut [u8] {
+        let end = self.bytes.len() - MARGIN;
+        &mut self.bytes[MARGIN..end]
+    }
+
+    /// Whether a byte before or after the inner ones has changed.
+    fn strayed(&self, fill: u8) -> bool {
+        let (before, rest) = self.bytes.split_at(MARGIN);
+        before.iter().chain(&rest[self.inner().len()..]).any(|byte| *byte != fill)
+    }
 }
 
 fn library_answers(input: &Input, fill: u8) -> Answers {
     let (file, list) = (Surrounded::new(&input.file, fill), Surrounded::new(&input.list, fill));
-    let mut buffers = input.buffers.map(pattern);
+    let mut wide = input.buffers.map(|len| Surrounded::new(&pattern(len), fill));
     let mut prepare = 0;
     if PREPARE {
-        let [image, edits, summary] = &mut buffers;
-        prepare = abi::prepare(file.inner(), list.inner(), input, [image, edits, summary]);
+        prepare = abi::prepare(file.inner(), list.inner(), input, wide.each_mut().map(Surrounded::inner_mut));
     }
-    Answers { symbols: abi::check_symbols(list.inner()), file: abi::check_file(file.inner()), prepare, buffers }
+    let strayed = wide.iter().any(|buffer| buffer.strayed(fill));
+    let buffers = wide.map(|buffer| buffer.inner().to_vec());
+    let (symbols, file) = (abi::check_symbols(list.inner()), abi::check_file(file.inner()));
+    Answers { symbols, file, prepare, buffers, strayed }
 }
 
 fn second_answers(input: &Input) -> Answers {
@@ -71,7 +86,8 @@ fn second_answers(input: &Input) -> Answers {
         let [image, edits, summary] = &mut buffers;
         prepare = second::prepare_into(&input.file, &input.list, &around, [image, edits, summary]);
     }
-    Answers { symbols: second::check_symbols(&input.list), file: second::check_file(&input.file), prepare, buffers }
+    let (symbols, file) = (second::check_symbols(&input.list), second::check_file(&input.file));
+    Answers { symbols, file, prepare, buffers, strayed: false }
 }
 
 /// Puts an input through both loaders. The fill is what stands around the bytes that the library gets.
@@ -79,7 +95,7 @@ pub fn compare(input: &Input, stated: &Stated, fill: u8) -> Outcome {
     let library = library_answers(input, fill);
     let second = match std::panic::catch_unwind(|| second_answers(input)) {
         Ok(answers) => answers,
-        Err(_) => return Outcome { difference: Some("the second loader panicked".to_string()), ..Outcome::default() },
+        Err(panic) => return Outcome { difference: Some(panicked(panic)), ..Outcome::default() },
     };
     let calls = [
         ("check_symbols", stated.symbols, library.symbols, second.symbols),
@@ -91,6 +107,12 @@ pub fn compare(input: &Input, stated: &Stated, fill: u8) -> Outcome {
     let difference = answer.or_else(|| buffers_differ(&library, &second)).or_else(|| not_as_stated(&library, stated));
     let payload = if PREPARE { library.prepare } else { library.file };
     Outcome { symbols: library.symbols, payload, buffers: library.buffers, difference }
+}
+
+fn panicked(panic: Box<dyn std::any::Any + Send>) -> String {
+    let words = panic.downcast_ref::<String>().cloned();
+    let words = words.or_else(|| panic.downcast_ref::<&str>().map(|text| text.to_string()));
+    format!("the second loader panicked: {}", words.unwrap_or_default())
 }
 
 fn answers_differ(call: &str, stated: Option<u64>, library: u64, second: u64) -> Option<String> {
@@ -105,6 +127,9 @@ fn answers_differ(call: &str, stated: Option<u64>, library: u64, second: u64) ->
 const BUFFERS: [&str; 3] = ["image", "edits", "summary"];
 
 fn buffers_differ(library: &Answers, second: &Answers) -> Option<String> {
+    if library.strayed {
+        return Some("prepare: the library wrote beside a buffer".to_string());
+    }
     for (name, (a, b)) in BUFFERS.iter().zip(library.buffers.iter().zip(&second.buffers)) {
         if let Some(at) = (0..a.len()).find(|&at| a[at] != b[at]) {
             let some = |bytes: &[u8]| format!("{:02x?}", &bytes[at..bytes.len().min(at + 8)]);

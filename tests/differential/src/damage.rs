@@ -24,50 +24,9 @@ pub enum Focus {
 
 /// Numbers at which rules change their mind.
 const SPECIAL: [u64; 44] = [
-    0,
-    1,
-    2,
-    3,
-    4,
-    5,
-    6,
-    7,
-    8,
-    9,
-    10,
-    11,
-    16,
-    23,
-    24,
-    25,
-    31,
-    32,
-    33,
-    48,
-    62,
-    63,
-    64,
-    65,
-    127,
-    128,
-    4095,
-    4096,
-    4097,
-    8191,
-    8192,
-    8193,
-    0xff00,
-    0xfff1,
-    0xfff2,
-    0xffff,
-    0x7fff_ffff,
-    0x8000_0000,
-    0xffff_ffff,
-    1 << 32,
-    1 << 63,
-    u64::MAX - 7,
-    u64::MAX - 3,
-    u64::MAX,
+    0, 1, 2, 3, 4, 5, 6, 7, 8, 9, 10, 11, 16, 23, 24, 25, 31, 32, 33, 48, 62, 63, 64, 65, 127, 128, 4095, 4096, 4097,
+    8191, 8192, 8193, 0xff00, 0xfff1, 0xfff2, 0xffff, 0x7fff_ffff, 0x8000_0000, 0xffff_ffff, 0x1_0000_0000,
+    0x8000_0000_0000_0000, 0xffff_ffff_ffff_fff8, 0xffff_ffff_ffff_fffc, 0xffff_ffff_ffff_ffff,
 ];
 
 /// Another number for a field.
@@ -103,8 +62,8 @@ pub fn damage(made: &Made, spare: &Made, focus: Focus, rng: &mut Rng) -> Input {
 fn once(made: &Made, focus: Focus, file: &mut [u8], rng: &mut Rng) {
     match focus {
         Focus::Header => {
-            let field =
-                if rng.one_in(8) { Field { at: rng.index(64), width: 1 } } else { rng.pick(&header_field::ALL) };
+            let byte = Field { at: rng.index(64), width: 1 };
+            let field = if rng.one_in(8) { byte } else { rng.pick(&header_field::ALL) };
             change(made, file, field.at, field.width, rng);
         }
         Focus::SectionTable => {
@@ -113,34 +72,25 @@ fn once(made: &Made, focus: Focus, file: &mut [u8], rng: &mut Rng) {
             change(made, file, made.assembled.table + 64 * row + field.at, field.width, rng);
         }
         Focus::Names => names(made, file, rng),
-        Focus::Notes => {
-            let role = rng.pick(&["depends", "build_id"]);
-            fields(
-                made,
-                role,
-                48,
-                &[(0, 4), (4, 4), (8, 4), (12, 4), (16, 1), (20, 1), (24, 1), (33, 1), (35, 1)],
-                file,
-                rng,
-            );
-        }
-        Focus::Symbols => {
-            fields(made, "symtab", 24, &[(0, 4), (4, 1), (5, 1), (6, 2), (6, 2), (8, 8), (16, 8)], file, rng)
-        }
+        Focus::Notes => fields(made, &["depends", "build_id"], 48, &NOTE, file, rng),
+        Focus::Symbols => fields(made, &["symtab"], 24, &SYMBOL, file, rng),
         Focus::Relocations => {
-            let role = rng.pick(&["rela_funcs", "rela_plain", "rela_plain", "rela_ignored"]);
-            fields(made, role, 24, &[(0, 8), (8, 4), (12, 4), (16, 8)], file, rng);
+            let roles = ["rela_funcs", "rela_plain", "rela_plain", "rela_ignored"];
+            fields(made, &roles, 24, &RELOCATION, file, rng);
         }
-        Focus::Records => {
-            let role = rng.pick(&["funcs", "funcs", "funcs", "strings"]);
-            fields(made, role, 64, &[(0, 8), (8, 8), (16, 8), (24, 4), (28, 4), (32, 1), (33, 1), (63, 1)], file, rng);
-        }
+        Focus::Records => fields(made, &["funcs", "funcs", "funcs", "strings"], 64, &RECORD, file, rng),
         _ => {
             let at = rng.index(file.len());
             file[at] = if rng.one_in(2) { rng.byte() } else { file[at] ^ 1 << rng.below(8) };
         }
     }
 }
+
+/// Offsets and widths of fields in contents.
+const NOTE: [(usize, usize); 9] = [(0, 4), (4, 4), (8, 4), (12, 4), (16, 1), (20, 1), (24, 1), (33, 1), (35, 1)];
+const SYMBOL: [(usize, usize); 7] = [(0, 4), (4, 1), (5, 1), (6, 2), (6, 2), (8, 8), (16, 8)];
+const RELOCATION: [(usize, usize); 4] = [(0, 8), (8, 4), (12, 4), (16, 8)];
+const RECORD: [(usize, usize); 8] = [(0, 8), (8, 8), (16, 8), (24, 4), (28, 4), (32, 1), (33, 1), (63, 1)];
 
 /// Changes the field at an offset of the file.
 fn change(made: &Made, file: &mut [u8], at: usize, width: usize, rng: &mut Rng) {
@@ -150,10 +100,11 @@ fn change(made: &Made, file: &mut [u8], at: usize, width: usize, rng: &mut Rng) 
     }
 }
 
-/// Changes a field of an entry of a section with this role.
-fn fields(made: &Made, role: &str, step: usize, places: &[(usize, usize)], file: &mut [u8], rng: &mut Rng) {
-    let found: Vec<usize> =
-        (0..made.assembled.roles.len()).filter(|index| made.assembled.roles[*index] == role).collect();
+/// Changes a field of an entry of a section with one of these roles.
+fn fields(made: &Made, roles: &[&str], step: usize, places: &[(usize, usize)], file: &mut [u8], rng: &mut Rng) {
+    let role = rng.pick(roles);
+    let indices = 0..made.assembled.roles.len();
+    let found: Vec<usize> = indices.filter(|index| made.assembled.roles[*index] == role).collect();
     if found.is_empty() {
         return;
     }

@@ -1,9 +1,10 @@
 //! The generated groups: each has a seed and a number of cases, and counts as one test.
 
-use crate::compare::compare;
+use crate::compare::{compare, PREPARE};
 use crate::report::{Report, Tally};
 use differential::damage::{damage, free_bytes, symbol_list, Focus};
-use differential::payloads::random::{lists, payload, Made};
+use differential::mutations::{table, Table};
+use differential::payloads::random::{edge_payload, lists, payload, Made};
 use differential::payloads::Input;
 use differential::rng::Rng;
 use differential::stated::Stated;
@@ -17,26 +18,40 @@ enum Kind {
     ValidPayloads,
     /// Valid payloads changed where no rule looks: same answer, same buffers.
     FreeBytes,
+    /// Payloads whose slot lies where the reach of jumps ends.
+    Edge,
+    /// The changes of two named rows at once: the order of checks.
+    TwoRows,
     Damaged(Focus),
 }
 
-/// Kinds, their names, and their part of all cases (in 100).
-const KINDS: [(Kind, &str, u64); 16] = [
+impl Kind {
+    /// Whether nothing of it is seen without prepare.
+    fn needs_prepare(self) -> bool {
+        let late = [Focus::Symbols, Focus::Relocations, Focus::Records, Focus::Surroundings];
+        matches!(self, Kind::Damaged(focus) if late.contains(&focus)) || matches!(self, Kind::Edge)
+    }
+}
+
+/// Kinds, their names, and their parts of all cases.
+const KINDS: [(Kind, &str, u64); 18] = [
     (Kind::ValidLists, "valid symbol lists", 2),
-    (Kind::DamagedLists, "damaged symbol lists", 8),
+    (Kind::DamagedLists, "damaged symbol lists", 7),
     (Kind::ValidPayloads, "valid payloads", 10),
     (Kind::FreeBytes, "bytes that no rule consults", 2),
-    (Kind::Damaged(Focus::Header), "damaged headers", 5),
-    (Kind::Damaged(Focus::SectionTable), "damaged section tables", 24),
-    (Kind::Damaged(Focus::Names), "damaged section names", 6),
+    (Kind::Edge, "jumps at the end of their reach", 2),
+    (Kind::TwoRows, "two rows at once", 12),
+    (Kind::Damaged(Focus::Header), "damaged headers", 4),
+    (Kind::Damaged(Focus::SectionTable), "damaged section tables", 18),
+    (Kind::Damaged(Focus::Names), "damaged section names", 5),
     (Kind::Damaged(Focus::Notes), "damaged notes", 5),
-    (Kind::Damaged(Focus::Symbols), "damaged symbols", 6),
-    (Kind::Damaged(Focus::Relocations), "damaged relocations", 7),
-    (Kind::Damaged(Focus::Records), "damaged records", 6),
-    (Kind::Damaged(Focus::Anywhere), "bytes changed anywhere", 6),
+    (Kind::Damaged(Focus::Symbols), "damaged symbols", 5),
+    (Kind::Damaged(Focus::Relocations), "damaged relocations", 6),
+    (Kind::Damaged(Focus::Records), "damaged records", 5),
+    (Kind::Damaged(Focus::Anywhere), "bytes changed anywhere", 5),
     (Kind::Damaged(Focus::Length), "truncated and lengthened files", 3),
     (Kind::Damaged(Focus::Splice), "parts of other payloads", 4),
-    (Kind::Damaged(Focus::SymbolList), "payloads with damaged symbol lists", 3),
+    (Kind::Damaged(Focus::SymbolList), "payloads with damaged symbol lists", 2),
     (Kind::Damaged(Focus::Surroundings), "other text ranges, slots and buffers", 3),
 ];
 
@@ -46,14 +61,14 @@ const GROUPS: u64 = 5;
 /// Damaged copies of one payload.
 const COPIES: u64 = 16;
 
-/// Runs all groups, with so many cases in all.
+/// Runs all groups, with so many cases in all, or a few more.
 pub fn run(seed: u64, cases: u64, report: &mut Report) {
     let mut seeds = Rng::new(seed);
-    for (kind, name, part) in KINDS {
+    let kinds = || KINDS.into_iter().filter(|(kind, _, _)| PREPARE || !kind.needs_prepare());
+    let whole: u64 = kinds().map(|(_, _, part)| part).sum();
+    for (kind, name, part) in kinds() {
         for _ in 0..GROUPS {
-            let seed = seeds.number();
-            let count = (cases * part).div_ceil(100 * GROUPS);
-            group(kind, name, seed, count, report);
+            group(kind, name, seeds.number(), (cases * part).div_ceil(whole * GROUPS), report);
         }
     }
 }
@@ -74,9 +89,8 @@ fn group(kind: Kind, name: &str, seed: u64, count: u64, report: &mut Report) {
         });
         if let Some(difference) = outcome.difference {
             if differences == 0 {
-                println!();
+                println!("case {number}: {difference}");
                 report.difference(&format!("{name}, seed {seed:#018x}, case {number}"), &difference, &input);
-                println!("  {name}, case {number}: {difference}");
             }
             differences += 1;
         }
@@ -90,6 +104,7 @@ fn group(kind: Kind, name: &str, seed: u64, count: u64, report: &mut Report) {
 struct Source {
     kind: Kind,
     rng: Rng,
+    rows: Table,
     made: Made,
     spare: Made,
     left: u64,
@@ -99,7 +114,8 @@ impl Source {
     fn new(kind: Kind, seed: u64) -> Source {
         let mut rng = Rng::new(seed);
         let (made, spare) = (payload(&mut rng), payload(&mut rng));
-        Source { kind, rng, made, spare, left: COPIES }
+        let rows = if matches!(kind, Kind::TwoRows) { table() } else { Table::default() };
+        Source { kind, rng, rows, made, spare, left: COPIES }
     }
 
     fn input(&mut self) -> (Input, Stated) {
@@ -117,21 +133,40 @@ impl Source {
                 let made = payload(&mut self.rng);
                 (made.input, made.stated)
             }
-            Kind::FreeBytes => {
-                let Made { mut input, assembled, mut stated } = payload(&mut self.rng);
-                let before = compare(&input, &stated, 0).buffers;
-                stated.bytes = before.into_iter().enumerate().map(|(buffer, bytes)| (buffer, 0, bytes)).collect();
-                free_bytes(&assembled, &mut input.file, &mut self.rng);
-                (input, stated)
+            Kind::FreeBytes => self.free_bytes(),
+            Kind::Edge => {
+                let stated = Stated { symbols: Some(0), file: Some(0), ..Stated::default() };
+                (edge_payload(&mut self.rng), stated)
             }
-            Kind::Damaged(focus) => {
-                if self.left == 0 {
-                    self.spare = std::mem::replace(&mut self.made, payload(&mut self.rng));
-                    self.left = COPIES;
-                }
-                self.left -= 1;
-                (damage(&self.made, &self.spare, focus, &mut self.rng), Stated::default())
+            Kind::TwoRows => (self.two_rows(), Stated::default()),
+            Kind::Damaged(focus) => (self.damaged(focus), Stated::default()),
+        }
+    }
+
+    fn free_bytes(&mut self) -> (Input, Stated) {
+        let Made { mut input, assembled, mut stated } = payload(&mut self.rng);
+        let before = compare(&input, &stated, 0).buffers;
+        stated.bytes = before.into_iter().enumerate().map(|(buffer, bytes)| (buffer, 0, bytes)).collect();
+        free_bytes(&assembled, &mut input.file, &mut self.rng);
+        (input, stated)
+    }
+
+    fn two_rows(&mut self) -> Input {
+        loop {
+            let (first, second) = (self.rng.index(self.rows.rows.len()), self.rng.index(self.rows.rows.len()));
+            let variant = self.rng.number();
+            if let Some(input) = self.rows.rows[first].with(&self.rows.rows[second], variant) {
+                return input;
             }
         }
+    }
+
+    fn damaged(&mut self, focus: Focus) -> Input {
+        if self.left == 0 {
+            self.spare = std::mem::replace(&mut self.made, payload(&mut self.rng));
+            self.left = COPIES;
+        }
+        self.left -= 1;
+        damage(&self.made, &self.spare, focus, &mut self.rng)
     }
 }

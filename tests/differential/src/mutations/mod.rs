@@ -25,6 +25,7 @@ use crate::payloads::assemble::input;
 use crate::payloads::template::template;
 use crate::payloads::{Draft, Input};
 use crate::stated::Stated;
+use std::panic::{catch_unwind, AssertUnwindSafe};
 
 /// A place by the role of its section.
 #[derive(Clone, Copy, Debug)]
@@ -169,6 +170,18 @@ impl Row {
         let mut draft = template(variant);
         (self.change)(&mut draft);
         (input(&draft), self.stated(&draft))
+    }
+
+    /// The payload with this row's change and then another's; nothing where the two don't go together. Nothing is stated
+    /// of it: which fault comes first is for the two loaders to agree on.
+    pub fn with(&self, other: &Row, variant: u64) -> Option<Input> {
+        let make = || {
+            let mut draft = template(variant);
+            (self.change)(&mut draft);
+            (other.change)(&mut draft);
+            input(&draft)
+        };
+        catch_unwind(AssertUnwindSafe(make)).ok()
     }
 
     fn stated(&self, draft: &Draft) -> Stated {

@@ -23,8 +23,17 @@ pub struct Made {
 
 /// A valid payload.
 pub fn payload(rng: &mut Rng) -> Made {
+    make(false, rng)
+}
+
+/// A payload whose only fault may be that jumps don't reach their new code.
+pub fn edge_payload(rng: &mut Rng) -> Input {
+    make(true, rng).input
+}
+
+fn make(at_edge: bool, rng: &mut Rng) -> Made {
     loop {
-        let (mut draft, mut stated) = draft(rng);
+        let (mut draft, mut stated) = draft(at_edge, rng);
         stated.placed(draft.placement().1 as u32);
         noise(&mut draft, rng);
         let mut assembled = assemble(&draft);
@@ -49,8 +58,8 @@ fn lengthen(file: &mut Vec<u8>, rng: &mut Rng) {
     file.extend(rng.bytes(more));
 }
 
-fn draft(rng: &mut Rng) -> (Draft, Stated) {
-    let plan = Plan::new(rng);
+fn draft(at_edge: bool, rng: &mut Rng) -> (Draft, Stated) {
+    let plan = Plan::new(at_edge, rng);
     let mut draft = Draft {
         sections: sections::sections(&plan, rng),
         symbols: vec![Symbol::new(b"", super::Ref::Number(0), 0)],

@@ -1,6 +1,6 @@
 //! What a payload is to do: its records, and the symbol list that names their functions.
 
-use super::surroundings::surroundings;
+use super::surroundings::{edge, surroundings};
 use crate::payloads::draft::Draft;
 use crate::rng::Rng;
 use crate::second::Surroundings;
@@ -52,24 +52,26 @@ pub struct Plan {
 }
 
 impl Plan {
-    pub fn new(rng: &mut Rng) -> Plan {
+    /// A plan for a valid payload, or for one whose slot lies where the reach of jumps ends.
+    pub fn new(at_edge: bool, rng: &mut Rng) -> Plan {
         let count = match rng.below(6) {
             0 => 16,
             1 => rng.between(1, 16),
             _ => rng.between(1, 4),
         };
-        let fills_only = rng.one_in(4);
+        let fills_only = !at_edge && rng.one_in(4);
         let fills: Vec<Option<u32>> =
             (0..count).map(|_| (fills_only || rng.one_in(3)).then(|| rng.between(1, 31) as u32)).collect();
         let covered: u64 = fills.iter().map(|fill| u64::from(fill.unwrap_or(5))).sum();
         let text_len = match rng.below(5) {
             0 => covered,
+            _ if at_edge => covered + rng.below(64),
             1 => covered + rng.below(64),
             2 => 1 << 24,
             _ => rng.between(covered, 1 << 24),
         };
         let near = fills.iter().any(Option::is_none) || rng.one_in(2);
-        let around = surroundings(text_len, near, rng);
+        let around = if at_edge { edge(text_len, rng) } else { surroundings(text_len, near, rng) };
         let mut list = other_names(&around, rng);
         let mut records = records(&fills, covered, &around, rng);
         for record in &mut records {

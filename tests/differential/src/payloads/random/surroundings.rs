@@ -6,6 +6,22 @@ use crate::second::Surroundings;
 /// So far may a jump's slot lie from its text.
 const NEAR: u64 = (1 << 31) - (1 << 25);
 
+/// A text range of this length and a slot where a jump's reach ends: some jumps get there, others don't.
+pub fn edge(text_len: u64, rng: &mut Rng) -> Surroundings {
+    let limit = 1u64 << 31;
+    loop {
+        let text_base = rng.number();
+        let distance = match rng.one_in(2) {
+            true => limit.wrapping_sub(8192).wrapping_add(rng.below(8192 + text_len)),
+            false => limit.wrapping_neg().wrapping_sub(8192).wrapping_add(rng.below(8192 + text_len)),
+        };
+        let around = Surroundings { text_base, text_len, slot_base: text_base.wrapping_add(distance) };
+        if around.stand() {
+            return around;
+        }
+    }
+}
+
 /// A text range of this length and a slot that share no byte; a near slot is within a jump's reach.
 pub fn surroundings(text_len: u64, near: bool, rng: &mut Rng) -> Surroundings {
     loop {
