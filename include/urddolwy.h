@@ -36,6 +36,26 @@ uint64_t urddolwy_check_symbols(const uint8_t *list, size_t list_len);
  * the headers of its relocation sections and its two notes. 0, or the first rule that is broken. */
 uint64_t urddolwy_check_file(const uint8_t *file, size_t file_len);
 
+/* The sizes of the buffers of urddolwy_prepare. */
+#define URDDOLWY_IMAGE_SIZE 8192
+#define URDDOLWY_EDITS 16
+#define URDDOLWY_EDIT_SIZE 48
+#define URDDOLWY_SUMMARY_SIZE 80
+
+/* Prepares a payload for the slot at `slot_base`, against the text of `text_len` bytes at `text_base` and the symbol list. It says
+ * what an upload would place and what its function records would change, and changes nothing else.
+ *
+ * Accepted, it returns 0 and writes
+ *   image    the slot's 8,192 bytes
+ *   edits    16 entries of 48 bytes: address (8 bytes, little-endian), length (4), then the edit's bytes, zeros after them
+ *   summary  placed length, number of edits, length of the id, length of the dependency (4 bytes each, little-endian), then the
+ *            id and the dependency in 32 bytes each, zeros after them
+ * Refused, it returns the refusal and leaves all three as they were. Buffers of other sizes, a text or slot that does not end at
+ * 2^64 or before, a text of no byte or over 16,777,216, a slot at 0 and bytes that are no symbol list get 22, nowhere. */
+uint64_t urddolwy_prepare(const uint8_t *file, size_t file_len, const uint8_t *symbols, size_t symbols_len, uint64_t text_base,
+                          uint64_t text_len, uint64_t slot_base, uint8_t *image, size_t image_len, uint8_t *edits, size_t edits_len,
+                          uint8_t *summary, size_t summary_len);
+
 #ifdef __cplusplus
 }
 #endif

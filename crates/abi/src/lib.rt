@@ -1,21 +1,3 @@
 // The C boundary: numbers and byte slices, as include/urddolwy.h declares them. No function asks anything of its caller.
-ghost use mathlib.Core.Path.{_≡_};
-ghost use Rattle.abi.specs.Answers.{listAnswer, fileAnswer};
-
-// Whether the bytes are a symbol list: 0, or the refusal's number.
-#[no_mangle]
-pub extern "C" fn urddolwy_check_symbols(list: &[u8]) -> u64
-    ensures { λ r. ⌜ r ≡ listAnswer (now (list .entry)) ⌝ }
-{
-    symbols::check(list).code()
-}
-
-// Whether the file keeps the rules that it alone decides: 0, or the refusal's number and place.
-#[no_mangle]
-pub extern "C" fn urddolwy_check_file(file: &[u8]) -> u64
-    ensures { λ r. ⌜ r ≡ fileAnswer (now (file .entry)) ⌝ }
-{
-    let reading = payload::read::read(file);
-    let verdict = reading.verdict;
-    verdict.code()
-}
+pub mod check;
+pub mod preparing;

@@ -3,8 +3,8 @@ use mathlib.Core.Path.{ap, _∙_}
 use Rattle.records.specs.Refusal.{verdictCode}
 use Rattle.abi.specs.Answers.{listAnswer}
 use borrow.Author.Needs.{needs}
-use Rattle.abi.proofs.urddolwy_check_symbols.Statement.{statement}
-use Rattle.abi.proofs.urddolwy_check_symbols.Tie as tie
+use Rattle.abi.proofs.check.urddolwy_check_symbols.Statement.{statement}
+use Rattle.abi.proofs.check.urddolwy_check_symbols.Tie as tie
 
 check-requires : tie.Need-check-requires
 check-requires c κs = search needs

@@ -4,8 +4,8 @@ use Rattle.records.specs.Refusal.{verdictCode}
 use Rattle.payload.proofs.ReadingLaws.{verdict-read}
 use Rattle.abi.specs.Answers.{fileAnswer}
 use borrow.Author.Needs.{needs}
-use Rattle.abi.proofs.urddolwy_check_file.Statement.{statement}
-use Rattle.abi.proofs.urddolwy_check_file.Tie as tie
+use Rattle.abi.proofs.check.urddolwy_check_file.Statement.{statement}
+use Rattle.abi.proofs.check.urddolwy_check_file.Tie as tie
 
 read-requires : tie.Need-read-requires
 read-requires c κs = search needs

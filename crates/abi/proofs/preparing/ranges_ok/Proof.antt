@@ -1,0 +1,64 @@
+-- `preparing::ranges_ok` meets its contract: ends are compared by what is left up to 2^64.
+use Prim.Native.Nat.{_+_, _^_, _≤_, _<_}
+use mathlib.Core.Bool.{and-false}
+use native.Mathlib.Omega.{arith}
+use borrow.Author.Tests.{le-leb, lt-leb}
+use Rattle.records.specs.Limits.{placedMax}
+use Rattle.abi.specs.Preparing.{rangesOk}
+use borrow.Author.Needs.{needs}
+use Rattle.abi.proofs.preparing.ranges_ok.Statement.{statement}
+use Rattle.abi.proofs.preparing.ranges_ok.Tie as tie
+
+returns : tie.Need-returns
+unfolding rangesOk
+returns c = simp (lt-leb _ _ (c .if1 .taken))
+
+returns-2 : tie.Need-returns-2
+unfolding rangesOk
+returns-2 c = simp (lt-leb _ _ (c .if2 .taken), and-false)
+
+sub-if3 : tie.Need-sub-if3
+sub-if3 c = search needs
+
+returns-3 : tie.Need-returns-3
+unfolding rangesOk
+returns-3 c =
+    let a = c .before .before .before .args in
+    let past : 2 ^ 64 < a .text + a .size = omega arith in
+    simp (lt-leb _ _ past, and-false)
+
+returns-4 : tie.Need-returns-4
+unfolding rangesOk
+returns-4 c = simp (lt-leb _ _ (c .if4 .taken), and-false)
+
+sub-if5 : tie.Need-sub-if5
+sub-if5 c = search needs
+
+sub-if5-2 : tie.Need-sub-if5-2
+sub-if5-2 c = search needs
+
+returns-5 : tie.Need-returns-5
+unfolding rangesOk
+returns-5 c =
+    let a = c .before .before .before .before .before .args in
+    let past : 2 ^ 64 < a .base + placedMax = omega arith in
+    simp (lt-leb _ _ past, and-false)
+
+returns-6 : tie.Need-returns-6
+unfolding rangesOk
+returns-6 c =
+    let a = c .before .before .before .before .before .args in
+    let text-ends : a .text + a .size ≤ 2 ^ 64 = omega arith in
+    let slot-ends : a .base + placedMax ≤ 2 ^ 64 = omega arith in
+    simp (
+      le-leb _ _ (c .before .before .before .before .if1 .left),
+      le-leb _ _ (c .before .before .before .if2 .left),
+      le-leb _ _ text-ends,
+      le-leb _ _ (c .before .if4 .left),
+      le-leb _ _ slot-ends,
+    )
+
+pub ranges-ok-spec : {M : Type 1} → statement M
+ranges-ok-spec =
+    tie.close
+    (tie.spec returns returns-2 sub-if3 returns-3 returns-4 sub-if5 sub-if5-2 returns-5 returns-6)

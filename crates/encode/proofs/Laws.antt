@@ -1,0 +1,160 @@
+-- Laws of the encodings: splices one after the other, the lengths of entries, and that the writes give the entry, the rows and the summary.
+use Prim.Native.Nat.{ℕ, zero, suc, _+_, _*_, _-_, _≤_, _<_}
+use mathlib.Core.Path.{_≡_, refl, sym, ap, _∙_}
+use mathlib.Core.Bool.{Bool, true, false}
+use mathlib.Core.List.{List, [], _∷_, _++_, append-nil}
+use native.Mathlib.Nat.{zero-add}
+use native.Mathlib.Omega.{arith}
+use borrow.Author.Tests.{ltb-true, lt-ltb, le-ltb}
+use lib.Dec.{ltb}
+use lib.ListN.{length, getD, replicate, drop-of-length-le, length-append, length-replicate, replicate-append-replicate}
+use Rattle.words.specs.Splice.{splice}
+use Rattle.words.specs.Number.{leBytes}
+use Rattle.words.proofs.Number.{length-leBytes}
+use Rattle.words.proofs.Splice.{splice-append, splice-splice, splice-splice-apart, length-splice}
+use Rattle.records.specs.Limits.{idMax, recordsMax}
+use Rattle.records.specs.Payload.{no-edit}
+use Rattle.records.specs.declared.payload.BuildId.{BuildId}
+use Rattle.records.specs.declared.payload.Edit.{Edit}
+use Rattle.records.specs.declared.payload.EditKind.the-variants.{Jump}
+use Rattle.machine.specs.Edits.{editBytes}
+use Rattle.encode.specs.Encode.{entrySize, entryOf, rowOf, rows, editsOf, editsSize, summarySize, summaryOf, Fitting}
+
+-- ---- splices
+
+-- all of a list replaced
+splice-whole : {A : Type 0} (s new : List A) → length new ≡ length s → splice s 0 new ≡ new
+unfolding splice
+splice-whole s new e =
+    let end : length s ≤ 0 + length new = omega arith in
+    rw (drop-of-length-le s end, append-nil new)
+
+-- right behind the one before, whose length is known
+splice-next :
+    {A : Type 0} (s : List A) (at n : ℕ) (new other : List A) → at ≤ length s → length new ≡ n →
+    splice (splice s at new) (at + n) other ≡ splice s at (new ++ other)
+splice-next s at n new other fits e = rw (← e) (splice-append s at new fits other)
+
+-- over the beginning of the one before
+splice-over :
+    {A : Type 0} (s : List A) (at : ℕ) (old rest new : List A) → at + length old ≤ length s → length new ≡ length old →
+    splice (splice s at (old ++ rest)) at new ≡ splice s at (new ++ rest)
+splice-over s at old rest new h e =
+    let fits : at ≤ length s = omega arith in
+    let room : at + length old ≤ length (splice s at old) = rw (length-splice s at old h) h in
+    ap (λ (l : List _). splice l at new) (sym (splice-append s at old fits rest))
+    ∙ sym (splice-splice-apart (splice s at old) at (at + length old) new rest (omega arith) room)
+    ∙ ap (λ (l : List _). splice l (at + length old) rest) (splice-splice s at old fits new (omega arith))
+    ∙ splice-next s at (length old) new rest fits e
+
+-- an element does not depend on the default
+getD-default : {A : Type 0} (l : List A) (i : ℕ) (d e : A) → i < length l → getD l i d ≡ getD l i e
+getD-default [] i d e h = absurd (omega arith)
+getD-default (x ∷ l) zero d e h = refl
+getD-default (x ∷ l) (suc i) d e h = getD-default l i d e (omega arith)
+
+-- an edit of a table, as it is copied out of an array
+pub copied : (es : List Edit) (r : ℕ) → r < length es → getD es r (record { offset = 0; length = 0; kind = Jump 0 }) ≡ getD es r no-edit
+copied es r h = getD-default es r _ no-edit h
+
+-- ---- an entry
+
+module _ (text : ℕ) (e : Edit) (short : length (editBytes e) ≤ 36) where
+  length-number : length (leBytes 8 (text + e .offset) ++ leBytes 4 (e .length)) ≡ 12
+  length-number = simp (length-append, length-leBytes)
+
+  length-front : length (leBytes 8 (text + e .offset) ++ leBytes 4 (e .length) ++ editBytes e) ≡ 12 + length (editBytes e)
+  length-front = simp (length-append, length-leBytes)
+
+  length-entry : length (entryOf text e) ≡ entrySize
+  unfolding entryOf
+  length-entry = simp (length-append, length-leBytes, length-replicate) (omega arith)
+
+  -- zeros, then the numbers and the edit's bytes over them
+  pub entry-laid :
+      (s : List ℕ) (at : ℕ) → at + entrySize ≤ length s →
+      splice
+      (splice (splice (splice s at (replicate entrySize 0)) at (leBytes 8 (text + e .offset))) (at + 8) (leBytes 4 (e .length)))
+      (at + 12)
+      (editBytes e) ≡ splice s at (entryOf text e)
+  unfolding entryOf
+  entry-laid s at room =
+      let zeros = splice s at (replicate entrySize 0) in
+      let fits : at ≤ length zeros = rw (length-splice s at (replicate entrySize 0) room) (omega arith) in
+      let n = length (editBytes e) in
+      let k : entrySize ≡ 12 + n + (36 - n) = omega arith in
+      let old : List ℕ = replicate (12 + n) 0 in
+      let length-old : length old ≡ 12 + n = length-replicate {A = ℕ} (12 + n) 0 in
+      let new = leBytes 8 (text + e .offset) ++ leBytes 4 (e .length) ++ editBytes e in
+      let split : replicate entrySize 0 ≡ old ++ replicate (36 - n) 0 =
+      ap (λ (m : ℕ). replicate {A = ℕ} m 0) k ∙ sym (replicate-append-replicate {A = ℕ} (12 + n) (36 - n) 0) in
+      rw (
+        splice-next zeros at 8 (leBytes 8 (text + e .offset)) (leBytes 4 (e .length)) fits (length-leBytes 8 (text + e .offset)),
+        splice-next zeros at 12 (leBytes 8 (text + e .offset) ++ leBytes 4 (e .length)) (editBytes e) fits length-number,
+      )
+      (ap (λ (l : List ℕ). splice (splice s at l) at new) split
+      ∙ splice-over s at old (replicate (36 - n) 0) new (omega arith) (length-front ∙ sym length-old))
+
+-- ---- all entries
+
+module _ (text : ℕ) (es : List Edit) (n : ℕ) (fitting : Fitting text es n) where
+  length-row-by : (r : ℕ) (b : Bool) → ltb r n ≡ b → length (rowOf text es n r) ≡ entrySize
+  unfolding rowOf
+  length-row-by r true e = rw e (length-entry text (getD es r no-edit) (fitting .short r (ltb-true r n e)))
+  length-row-by r false e = rw e (length-replicate {A = ℕ} entrySize 0)
+
+  pub length-row : (r : ℕ) → length (rowOf text es n r) ≡ entrySize
+  length-row r = length-row-by r (ltb r n) refl
+
+  length-rows : (k : ℕ) → length (rows text es n k) ≡ entrySize * k
+  unfolding rows
+  length-rows zero = refl
+  length-rows (suc k) = simp (length-append, length-row k, length-rows k) (omega arith)
+
+  -- the entry of an edit, and zeros behind the last
+  pub row-edit : (r : ℕ) → r < n → rowOf text es n r ≡ entryOf text (getD es r no-edit)
+  unfolding rowOf
+  row-edit r h = rw (lt-ltb r n h)
+
+  pub row-none : (r : ℕ) → n ≤ r → rowOf text es n r ≡ replicate entrySize 0
+  unfolding rowOf
+  row-none r h = rw (le-ltb r n h)
+
+  -- one entry more
+  pub row-laid :
+      (s : List ℕ) (k : ℕ) → splice (splice s 0 (rows text es n k)) (entrySize * k) (rowOf text es n k) ≡ splice s 0 (rows text es n (suc k))
+  unfolding rows
+  row-laid s k = rw zero-add at (splice-next s 0 (entrySize * k) (rows text es n k) (rowOf text es n k) (omega arith) (length-rows k))
+
+  -- all of them
+  pub all-laid : (s : List ℕ) → length s ≡ editsSize → splice s 0 (editsOf text es n) ≡ editsOf text es n
+  all-laid s e = splice-whole s (editsOf text es n) (length-rows recordsMax ∙ sym e)
+
+-- ---- the summary
+
+-- its six parts, one behind the other
+pub summary-laid :
+    (s : List ℕ) (placed count : ℕ) (id dependency : BuildId) → length s ≡ summarySize → length (id .bytes) ≡ idMax →
+    length (dependency .bytes) ≡ idMax →
+    splice
+    (splice
+    (splice (splice (splice (splice s 0 (leBytes 4 placed)) 4 (leBytes 4 count)) 8 (leBytes 4 (id .length))) 12 (leBytes 4 (dependency .length)))
+    16
+    (id .bytes))
+    48
+    (dependency .bytes) ≡ summaryOf placed count id dependency
+unfolding summaryOf
+summary-laid s placed count id dependency all e f =
+    let a = leBytes 4 placed in
+    let b = leBytes 4 count in
+    let c = leBytes 4 (id .length) in
+    let d = leBytes 4 (dependency .length) in
+    let start : 0 ≤ length s = omega arith in
+    rw (
+      splice-next s 0 4 a b start (length-leBytes 4 placed),
+      splice-next s 0 8 (a ++ b) c start (simp (length-append, length-leBytes)),
+      splice-next s 0 12 (a ++ b ++ c) d start (simp (length-append, length-leBytes)),
+      splice-next s 0 16 (a ++ b ++ c ++ d) (id .bytes) start (simp (length-append, length-leBytes)),
+      splice-next s 0 48 (a ++ b ++ c ++ d ++ id .bytes) (dependency .bytes) start (simp (length-append, length-leBytes, e)),
+    )
+    (splice-whole s (a ++ b ++ c ++ d ++ id .bytes ++ dependency .bytes) (simp (length-append, length-leBytes, e, f) (sym all)))

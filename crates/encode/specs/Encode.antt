@@ -1,0 +1,49 @@
+-- What the C boundary writes of a prepared payload: edits in entries of 48 bytes, and a summary of 80.
+use Prim.Native.Nat.{ℕ, zero, suc, _+_, _*_, _-_, _≤_, _<_, _^_}
+use mathlib.Core.Bool.{cond}
+use mathlib.Core.List.{List, [], _++_}
+use lib.Dec.{ltb}
+use lib.ListN.{length, getD, replicate}
+use Rattle.words.specs.Number.{leBytes}
+use Rattle.records.specs.Limits.{recordsMax, idMax}
+use Rattle.records.specs.Payload.{no-edit}
+use Rattle.records.specs.declared.payload.BuildId.{BuildId}
+use Rattle.records.specs.declared.payload.Edit.{Edit}
+use Rattle.machine.specs.Edits.{editBytes}
+
+-- an entry: address in 8 little-endian bytes, length in 4, then the edit's bytes, zeros after them
+abbrev pub entrySize : ℕ
+entrySize = 48
+
+unfoldable pub entryOf : ℕ → Edit → List ℕ
+entryOf text e =
+    leBytes 8 (text + e .offset) ++ leBytes 4 (e .length) ++ editBytes e ++ replicate (36 - length (editBytes e)) 0
+
+-- entry r: that of edit r, or zeros behind the last
+unfoldable pub rowOf : ℕ → List Edit → ℕ → ℕ → List ℕ
+rowOf text es n r = cond (ltb r n) (entryOf text (getD es r no-edit)) (replicate entrySize 0)
+
+-- the first k entries
+unfoldable pub rows : ℕ → List Edit → ℕ → ℕ → List ℕ
+rows text es n zero = []
+rows text es n (suc k) = rows text es n k ++ rowOf text es n k
+
+-- all 16 entries
+abbrev pub editsOf : ℕ → List Edit → ℕ → List ℕ
+editsOf text es n = rows text es n recordsMax
+
+abbrev pub editsSize : ℕ
+editsSize = entrySize * recordsMax
+
+-- the summary: placed length, edit count, id length, dependency length, each in 4 little-endian bytes; then both ids in 32 bytes each
+abbrev pub summarySize : ℕ
+summarySize = 16 + 2 * idMax
+
+unfoldable pub summaryOf : ℕ → ℕ → BuildId → BuildId → List ℕ
+summaryOf placed count id dependency =
+    leBytes 4 placed ++ leBytes 4 count ++ leBytes 4 (id .length) ++ leBytes 4 (dependency .length) ++ id .bytes ++ dependency .bytes
+
+-- every edit has an address and fits its entry
+pub record Fitting (text : ℕ) (es : List Edit) (n : ℕ) : Type 0 where
+  pub addressed : (r : ℕ) → r < n → text + getD es r no-edit .offset < 2 ^ 64
+  pub short : (r : ℕ) → r < n → length (editBytes (getD es r no-edit)) ≤ 36
