@@ -36,7 +36,7 @@ use Rattle.prepare.specs.Prepare.{
   buildRules,
   sizesOk,
   prepareRules,
-  refusedBy,
+ 
   acceptedOf,
   outcomeBy,
   prepareOf,
