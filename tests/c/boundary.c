@@ -82,10 +82,47 @@ static void files(void)
     expect("another machine", file_answer(file, 128), 8);
 }
 
+struct buffers {
+    uint8_t image[URDDOLWY_IMAGE_SIZE];
+    uint8_t edits[URDDOLWY_EDITS * URDDOLWY_EDIT_SIZE];
+    uint8_t summary[URDDOLWY_SUMMARY_SIZE];
+};
+
+/* One refused preparation: its answer, and that no buffer was written. */
+static void refused(const char *what, const uint8_t *file, size_t n, size_t list_len, uint64_t text_len, uint64_t slot_base,
+                    size_t image_len, uint64_t want)
+{
+    struct buffers b, before;
+    memset(&b, 0xa5, sizeof b);
+    before = b;
+    expect(what,
+           urddolwy_prepare(file, n, example, list_len, 0xffff82d080000000, text_len, slot_base, b.image, image_len, b.edits,
+                            sizeof b.edits, b.summary, sizeof b.summary),
+           want);
+    expect("the buffers of a refusal", (uint64_t)memcmp(&b, &before, sizeof b), 0);
+}
+
+static void preparations(void)
+{
+    const uint64_t text = 16777216, slot = 0xffff82d0a0000000;
+    uint8_t file[128];
+    smallest(file);
+    refused("a name table of type 0", file, 128, 33, text, slot, URDDOLWY_IMAGE_SIZE, 22);
+    refused("a short file", file, 63, 33, text, slot, URDDOLWY_IMAGE_SIZE, 8);
+    refused("no symbol list", file, 63, 32, text, slot, URDDOLWY_IMAGE_SIZE, 22);
+    refused("no text", file, 63, 33, 0, slot, URDDOLWY_IMAGE_SIZE, 22);
+    refused("a text too long", file, 63, 33, text + 1, slot, URDDOLWY_IMAGE_SIZE, 22);
+    refused("a slot at 0", file, 63, 33, text, 0, URDDOLWY_IMAGE_SIZE, 22);
+    refused("a slot past the last address", file, 63, 33, text, UINT64_MAX - 8190, URDDOLWY_IMAGE_SIZE, 22);
+    refused("the last slot", file, 63, 33, text, UINT64_MAX - 8191, URDDOLWY_IMAGE_SIZE, 8);
+    refused("an image too short", file, 63, 33, text, slot, URDDOLWY_IMAGE_SIZE - 1, 22);
+}
+
 int main(void)
 {
     lists();
     files();
+    preparations();
     expect("the number", URDDOLWY_NUMBER(34 + 512 + (5u << 16) + (7ull << 32)), 34);
     expect("the entry", URDDOLWY_SECOND(34 + 512 + (5u << 16) + (7ull << 32)), 7);
     printf("%d passed, %d failed\n", passed, failed);
