@@ -36,7 +36,6 @@ use Rattle.prepare.specs.Prepare.{
   buildRules,
   sizesOk,
   prepareRules,
- 
   acceptedOf,
   outcomeBy,
   prepareOf,

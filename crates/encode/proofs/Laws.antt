@@ -2,32 +2,24 @@
 use Prim.Native.Nat.{ℕ, zero, suc, _+_, _*_, _-_, _≤_, _<_}
 use mathlib.Core.Path.{_≡_, refl, sym, ap, _∙_}
 use mathlib.Core.Bool.{Bool, true, false}
-use mathlib.Core.List.{List, [], _∷_, _++_, append-nil}
+use mathlib.Core.List.{List, _++_}
 use native.Mathlib.Nat.{zero-add}
 use native.Mathlib.Omega.{arith}
 use borrow.Author.Tests.{ltb-true, lt-ltb, le-ltb}
 use lib.Dec.{ltb}
-use lib.ListN.{length, getD, replicate, drop-of-length-le, length-append, length-replicate, replicate-append-replicate}
+use lib.ListN.{length, getD, replicate, length-append, length-replicate, replicate-append-replicate}
 use Rattle.words.specs.Splice.{splice}
 use Rattle.words.specs.Number.{leBytes}
 use Rattle.words.proofs.Number.{length-leBytes}
-use Rattle.words.proofs.Splice.{splice-append, splice-splice, splice-splice-apart, length-splice}
+use Rattle.words.proofs.Splice.{splice-append, splice-splice, splice-splice-apart, length-splice, splice-whole}
 use Rattle.records.specs.Limits.{idMax, recordsMax}
 use Rattle.records.specs.Payload.{no-edit}
 use Rattle.records.specs.declared.payload.BuildId.{BuildId}
 use Rattle.records.specs.declared.payload.Edit.{Edit}
-use Rattle.records.specs.declared.payload.EditKind.the-variants.{Jump}
 use Rattle.machine.specs.Edits.{editBytes}
 use Rattle.encode.specs.Encode.{entrySize, entryOf, rowOf, rows, editsOf, editsSize, summarySize, summaryOf, Fitting}
 
 -- ---- splices
-
--- all of a list replaced
-splice-whole : {A : Type 0} (s new : List A) → length new ≡ length s → splice s 0 new ≡ new
-unfolding splice
-splice-whole s new e =
-    let end : length s ≤ 0 + length new = omega arith in
-    rw (drop-of-length-le s end, append-nil new)
 
 -- right behind the one before, whose length is known
 splice-next :
@@ -46,16 +38,6 @@ splice-over s at old rest new h e =
     ∙ sym (splice-splice-apart (splice s at old) at (at + length old) new rest (omega arith) room)
     ∙ ap (λ (l : List _). splice l (at + length old) rest) (splice-splice s at old fits new (omega arith))
     ∙ splice-next s at (length old) new rest fits e
-
--- an element does not depend on the default
-getD-default : {A : Type 0} (l : List A) (i : ℕ) (d e : A) → i < length l → getD l i d ≡ getD l i e
-getD-default [] i d e h = absurd (omega arith)
-getD-default (x ∷ l) zero d e h = refl
-getD-default (x ∷ l) (suc i) d e h = getD-default l i d e (omega arith)
-
--- an edit of a table, as it is copied out of an array
-pub copied : (es : List Edit) (r : ℕ) → r < length es → getD es r (record { offset = 0; length = 0; kind = Jump 0 }) ≡ getD es r no-edit
-copied es r h = getD-default es r _ no-edit h
 
 -- ---- an entry
 

@@ -1,13 +1,13 @@
--- Laws of function records: an edit copied out of a table, the machine's sizes, what the tests of a record say, and `edit-made`: every
+-- Laws of function records: the machine's sizes, what the tests of a record say, and `edit-made`: every
 -- edit lies in the text and has 1 to 31 bytes.
-use Prim.Native.Nat.{ℕ, zero, suc, _+_, _-_, _%_, _^_, _≤_, _<_}
+use Prim.Native.Nat.{ℕ, _+_, _-_, _%_, _^_, _≤_}
 use mathlib.Core.Path.{_≡_, refl, ap}
 use mathlib.Core.Bool.{Bool, true, false, cond, _&&_, and-eq-true-iff}
-use mathlib.Core.List.{List, [], _∷_}
+use mathlib.Core.List.{List}
 use native.Mathlib.Omega.{arith}
 use borrow.Author.Tests.{leb-true}
 use lib.Dec.{leb, eqb}
-use lib.ListN.{length, getD}
+use lib.ListN.{length}
 use Rattle.records.specs.declared.payload.Edit.{Edit}
 use Rattle.records.specs.declared.refusal.Reason.{Reason}
 use Rattle.records.specs.declared.refusal.Reason.the-variants.{OutOfRange, Invalid}
@@ -20,14 +20,7 @@ use Rattle.functions.specs.declared.function.FunctionRecord.{FunctionRec
 use Rattle.functions.specs.declared.function.OldAddress.{OldAddress}
 use Rattle.functions.specs.declared.function.OldAddress.the-variants.{At, Refused}
 use Rattle.functions.specs.Records.{recordOf, oldAddressOf}
-use Rattle.functions.specs.Pairs.{editIn}
 use Rattle.functions.specs.Edits.{liesIn, formOk, inText, fillOk, jumpOk, fillEdit, jumpEdit, editFrom, editBy, editOf}
-
--- an edit of a table, as it is copied out of an array
-pub copied : (es : List Edit) (i : ℕ) → i < length es → editIn es i ≡ getD es i (record { offset = 0; length = 0; kind = Jump 0 })
-copied [] i h = absurd (omega arith)
-copied (e ∷ es) zero h = refl
-copied (e ∷ es) (suc i) h = copied es i (omega arith)
 
 -- the machine's sizes as numbers
 pub sizes-known : {s : Sizes} → s ≡ sizesOf → (s .jump ≡ jumpLength) × (s .«fill_max» ≡ fillMax)

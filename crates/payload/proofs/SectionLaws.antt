@@ -1,14 +1,12 @@
 -- What a name table and sections that pass tell, and the table of sections by its index.
-use Prim.Native.Nat.{ℕ, _+_, _*_, _-_, _≤_, _<_}
-use mathlib.Core.Path.{_≡_, ap, _∙_}
+use Prim.Native.Nat.{ℕ, _+_, _*_, _≤_, _<_}
+use mathlib.Core.Path.{_≡_, ap}
 use mathlib.Core.Bool.{true, not, and-eq-true-iff}
 use mathlib.Core.List.{List}
-use native.Mathlib.Nat.{zero-add}
 use native.Mathlib.Omega.{arith}
 use borrow.Author.Tests.{ltb-true, ne-eqb}
-use lib.ListN.{length, getD, replicate, List·getD-append}
-use Rattle.words.specs.Scan.{each, filled}
-use Rattle.words.proofs.Scan.{length-each, getD-each}
+use lib.ListN.{length}
+use Rattle.words.proofs.Scan.{getD-filled}
 use Rattle.records.specs.Verdict.{must}
 use Rattle.records.specs.declared.refusal.Reason.the-variants.{Invalid}
 use Rattle.records.specs.declared.refusal.Place.the-variants.{Nowhere, Section}
@@ -17,22 +15,7 @@ use Rattle.elf.specs.Layout.{fileHeaderOf}
 use Rattle.elf.specs.declared.FileHeader.{FileHeader}
 use Rattle.payload.specs.Header.{Headed}
 use Rattle.payload.specs.Kinds.{hasType, isKind}
-use Rattle.payload.specs.Sections.{
-  sectionCount,
-  contentsInside,
-  nameTableRules,
-  nameSection,
-  entryOf,
-  noEntry,
-  sections,
-  sectionIn,
-  knownType,
-  knownFlags,
-  alignmentOk,
-  contentsOk,
-  sectionRules,
-  sectionsRules,
-}
+use Rattle.payload.specs.Sections.{sectionCount, contentsInside, nameTableRules, nameSection, entryOf, noEntry, sections, sectionIn, knownType, knownFlags, alignmentOk, contentsOk, sectionRules, sectionsRules}
 use Rattle.payload.specs.declared.kinds.Kind.the-variants.{Unnamed, Unknown}
 use Rattle.payload.specs.declared.sections.SectionEntry.{SectionEntry}
 use Rattle.records.proofs.Checks.{must-pass, then-pass, scan-passes}
@@ -57,12 +40,6 @@ names-inside file e =
     ltb-true _ _ (and-eq-true-iff _ _ .0 (all .0) .0)
 
 -- ---- the sections by index
-
-pub getD-filled : {A : Type 0} (f : ℕ → A) (z : A) (m n i : ℕ) (d : A) → i < n → getD (filled f z m n) i d ≡ f i
-unfolding filled
-getD-filled f z m n i d h =
-    let short : i < length (each f 0 n) = omega (arith, length-each f 0 n) in
-    List·getD-append (each f 0 n) (replicate (m - n) z) d i short ∙ getD-each f 0 n i d h ∙ rw (zero-add i)
 
 pub section-in : (file : List ℕ) (i : ℕ) → i < sectionCount file → sectionIn (sections file) i ≡ entryOf file i
 unfolding sections

@@ -9,7 +9,7 @@ use Rattle.records.specs.declared.refusal.Verdict.{Verdict}
 use Rattle.records.specs.declared.refusal.Verdict.the-variants.{Pass, Refuse}
 use Rattle.payload.specs.Sections.{sections, sectionCount, sectionIn}
 use Rattle.payload.specs.declared.sections.SectionEntry.{SectionEntry}
-use Rattle.payload.proofs.SectionLaws.{getD-filled}
+use Rattle.words.proofs.Scan.{getD-filled}
 use Rattle.placement.specs.Placement.{offsetOf, placementRules, placedBy, placementOf}
 use Rattle.placement.specs.declared.Placement.{Placement}
 use Rattle.relocation.specs.Relocating.{relocated, linkingOf, relocateAll}

@@ -12,7 +12,7 @@ use Rattle.records.specs.declared.refusal.Verdict.the-variants.{Pass}
 use Rattle.records.proofs.Checks.{then-pass, scan-passes}
 use Rattle.machine.specs.Edits.{editBytes}
 use Rattle.machine.proofs.Laws.{length-edit}
-use Rattle.payload.proofs.SectionLaws.{getD-filled}
+use Rattle.words.proofs.Scan.{getD-filled}
 use Rattle.functions.specs.Functions.{Patching, editAt, verdictOf, madeOf, editsOf, functionRules}
 use Rattle.functions.specs.declared.edits.RecordEdit.{RecordEdit}
 use Rattle.functions.specs.declared.edits.RecordEdit.the-variants.{Make, Fault}

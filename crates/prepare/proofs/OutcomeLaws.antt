@@ -2,11 +2,8 @@
 use Prim.Native.Nat.{ℕ}
 use mathlib.Core.Path.{_≡_, refl, sym, ap, _∙_}
 use mathlib.Core.Bool.{true, false}
-use mathlib.Core.List.{List, append-nil}
+use mathlib.Core.List.{List}
 use lib.ListN.{length}
-use native.Mathlib.Nat.{zero-add}
-use lib.Seq.{drop-length}
-use Rattle.words.specs.Splice.{splice}
 use Rattle.records.specs.Limits.{placedMax}
 use Rattle.records.specs.Verdict.{refusal}
 use Rattle.records.proofs.Checks.{then-pass}
@@ -26,11 +23,6 @@ use Rattle.relocation.proofs.RelocateLaws.{length-relocated}
 use Rattle.prepare.specs.Prepare.{Target, Ready, recordsIndex, Outcome, outcome, relocatedOf, sizesOk, buildRules, prepareRules, refusedBy, acceptedOf, allBuilt, builtBy, builtOf, prepareOf}
 use Rattle.prepare.specs.declared.build.Built.{Built}
 use Rattle.prepare.proofs.PrepareLaws.{linkable}
-
--- the whole of a list replaced
-pub splice-whole : (s new : List ℕ) → length new ≡ length s → splice s 0 new ≡ new
-unfolding splice
-splice-whole s new e = rw (e, zero-add, drop-length s, append-nil new)
 
 module _ (t : Target) (file image : List ℕ) where
   pub wrong-sizes : sizesOk t image ≡ false → prepareOf t file image ≡ outcome (refusedBy (refusal Invalid Nowhere)) image

@@ -6,9 +6,9 @@ use mathlib.Core.List.{List}
 use native.Mathlib.Omega.{arith}
 use borrow.Author.Tests.{ltb-true, leb-true, not-true}
 use lib.Dec.{ltb}
-use lib.ListN.{length, getD, length-append, length-replicate}
+use lib.ListN.{length, getD}
 use Rattle.words.specs.Scan.{filled}
-use Rattle.words.proofs.Scan.{length-each}
+use Rattle.words.proofs.Scan.{getD-filled, length-filled}
 use Rattle.records.specs.Limits.{placedMax, sectionsMax, recordsMax}
 use Rattle.records.specs.Verdict.{must}
 use Rattle.records.specs.declared.refusal.Reason.the-variants.{Invalid}
@@ -26,18 +26,13 @@ use Rattle.payload.specs.declared.sections.SectionEntry.{SectionEntry}
 use Rattle.payload.proofs.CountLaws.{CountsPass, counts-pass, index-found}
 use Rattle.payload.proofs.HeaderLaws.{headed}
 use Rattle.payload.proofs.ReadingLaws.{TablePasses, table-passes}
-use Rattle.payload.proofs.SectionLaws.{getD-filled}
 use Rattle.placement.specs.Placement.{isPlaced, endBefore, offsetOf, limitOf, imageBefore, placementRules}
 use Rattle.placement.proofs.PlacementLaws.{placed-inside, end-inside, length-image}
 use Rattle.relocation.specs.Relocating.{Linkable, isRelocating}
 use Rattle.relocation.proofs.RelocateLaws.{relocating-kind}
 use Rattle.prepare.specs.Prepare.{Ready}
 
--- ---- a table of 64, and tests
-
-length-filled : {A : Type 0} (f : ℕ → A) (z : A) (m n : ℕ) → n ≤ m → length (filled f z m n) ≡ m
-unfolding filled
-length-filled f z m n h = simp (length-append, length-each, length-replicate) (omega arith)
+-- ---- tests
 
 both : (a b : Bool) → (a && b) ≡ true → (a ≡ true) × (b ≡ true)
 both a b = and-eq-true-iff a b .0

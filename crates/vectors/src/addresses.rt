@@ -36,7 +36,7 @@ fn ranges() {
     );
 }
 
-pub fn all() {
+pub(crate) fn all() {
     sums();
     edges();
     ranges();

@@ -56,7 +56,7 @@ fn name() {
     print::number(b"name p1, status", one.status as u64);
 }
 
-pub fn all() {
+pub(crate) fn all() {
     refusals();
     limits();
     name();

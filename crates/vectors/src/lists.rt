@@ -187,7 +187,7 @@ fn orders() {
     );
 }
 
-pub fn all() {
+pub(crate) fn all() {
     example();
     two_entries();
     counts();

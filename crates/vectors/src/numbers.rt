@@ -43,7 +43,7 @@ fn written_big() {
     print::bytes(b"be 2 of abcd at 0", &s);
 }
 
-pub fn all() {
+pub(crate) fn all() {
     little();
     big();
     written();

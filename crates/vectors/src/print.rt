@@ -10,14 +10,14 @@ fn end() {
     io::write_all(STDOUT_FILENO, b"\n");
 }
 
-pub fn word(label: &[u8], text: &[u8]) {
+pub(crate) fn word(label: &[u8], text: &[u8]) {
     start(label);
     io::write_all(STDOUT_FILENO, b" ");
     io::write_all(STDOUT_FILENO, text);
     end();
 }
 
-pub fn truth(label: &[u8], t: bool) {
+pub(crate) fn truth(label: &[u8], t: bool) {
     if t {
         word(label, b"yes");
     } else {
@@ -25,7 +25,7 @@ pub fn truth(label: &[u8], t: bool) {
     }
 }
 
-pub fn number(label: &[u8], n: u64) {
+pub(crate) fn number(label: &[u8], n: u64) {
     start(label);
     io::write_all(STDOUT_FILENO, b" ");
     io::print_decimal(STDOUT_FILENO, n);
@@ -38,7 +38,7 @@ fn byte(x: u8) {
     io::print_hex(STDOUT_FILENO, x as u64, 2);
 }
 
-pub fn bytes(label: &[u8], s: &[u8]) {
+pub(crate) fn bytes(label: &[u8], s: &[u8]) {
     start(label);
     let mut i = 0;
     while i < s.len() {
@@ -49,7 +49,7 @@ pub fn bytes(label: &[u8], s: &[u8]) {
 }
 
 // The first n bytes, where there are as many.
-pub fn first(label: &[u8], s: &[u8], n: usize) {
+pub(crate) fn first(label: &[u8], s: &[u8], n: usize) {
     if n <= s.len() {
         bytes(label, &s[0..n]);
     }

@@ -57,7 +57,7 @@ fn changed() {
     print::bytes(b"copy of nothing to 6", &s);
 }
 
-pub fn all() {
+pub(crate) fn all() {
     same();
     orders();
     order_edges();

@@ -8,7 +8,7 @@ use mathlib.Core.List.{List, [], _∷_, _++_}
 use native.Mathlib.Nat.{add-zero, zero-add, eq-or-lt-of-le}
 use native.Mathlib.Numerals.{add-one}
 use native.Mathlib.Omega.{arith}
-use lib.ListN.{length, getD, set, replicate}
+use lib.ListN.{length, getD, set, replicate, length-append, length-replicate, List·getD-append}
 use lib.Seq.{set-at, append-snoc}
 use Rattle.words.specs.Scan.{scan, each, filled}
 
@@ -102,3 +102,14 @@ module _ {A : Type 0} (f : ℕ → A) where
       let left : m - i ≡ suc (m - (i + 1)) = omega arith in
       rw (left, add-one i, each-more 0 i, zero-add i)
       (set-at (each f 0 i) z (replicate (m - suc i) z) (f i) i (length-each 0 i) ∙ sym (append-snoc (each f 0 i) (f i) _))
+
+-- an array that is filled: its length, and its elements
+pub length-filled : {A : Type 0} (f : ℕ → A) (z : A) (m n : ℕ) → n ≤ m → length (filled f z m n) ≡ m
+unfolding filled
+length-filled f z m n h = simp (length-append, length-each, length-replicate) (omega arith)
+
+pub getD-filled : {A : Type 0} (f : ℕ → A) (z : A) (m n i : ℕ) (d : A) → i < n → getD (filled f z m n) i d ≡ f i
+unfolding filled
+getD-filled f z m n i d h =
+    let short : i < length (each f 0 n) = omega (arith, length-each f 0 n) in
+    List·getD-append (each f 0 n) (replicate (m - n) z) d i short ∙ getD-each f 0 n i d h ∙ rw (zero-add i)

@@ -1,10 +1,10 @@
 -- Laws of `splice` and `part`: lengths, elements and parts of a list with part of it replaced, and splices one after the other.
-use Prim.Native.Nat.{ℕ, suc, _+_, _-_, _≤_, _<_}
+use Prim.Native.Nat.{ℕ, suc, _+_, _-_, _≤_, _<_, zero}
 use mathlib.Core.Path.{_≡_, refl, sym, ap, _∙_}
 use mathlib.Core.List.{List, [], _∷_, _++_, append-nil, append-assoc}
 use native.Mathlib.Nat.{add-zero}
 use native.Mathlib.Omega.{arith}
-use lib.ListN.{length, getD, take, drop, set, length-append, length-take, length-drop, take-append-drop, List·getD-append}
+use lib.ListN.{length, getD, take, drop, set, length-append, length-take, length-drop, take-append-drop, List·getD-append, drop-of-length-le}
 use lib.Seq.{length-take-le, take-length, take-at, drop-at, take-add, take-suc, take-take, drop-drop, take-append-le, drop-append-le, drop-append-add, getD-append-add, getD-take, getD-drop, set-at}
 use Rattle.words.specs.Splice.{splice, part}
 
@@ -174,3 +174,16 @@ pub splice-splice-apart :
     splice (splice s at new) k other ≡ splice (splice s k other) at new
 splice-splice-apart s at k new other h g =
     rw take-append-drop at (apart (take k s) (drop k s) at k new other (length-take-le k s g) h)
+
+-- the whole of a list replaced
+pub splice-whole : {A : Type 0} (s new : List A) → length new ≡ length s → splice s 0 new ≡ new
+unfolding splice
+splice-whole s new e =
+    let end : length s ≤ 0 + length new = omega arith in
+    rw (drop-of-length-le s end, append-nil new)
+
+-- an element that is there, whatever stands for one that is not
+pub getD-default : {A : Type 0} (l : List A) (i : ℕ) (d e : A) → i < length l → getD l i d ≡ getD l i e
+getD-default [] i d e h = absurd (omega arith)
+getD-default (x ∷ l) zero d e h = refl
+getD-default (x ∷ l) (suc i) d e h = getD-default l i d e (omega arith)

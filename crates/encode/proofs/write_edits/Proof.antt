@@ -9,7 +9,8 @@ use Rattle.words.specs.Splice.{splice}
 use Rattle.words.proofs.Splice.{splice-none, length-splice}
 use Rattle.records.specs.Limits.{recordsMax}
 use Rattle.encode.specs.Encode.{entrySize, rowOf, rows}
-use Rattle.encode.proofs.Laws.{copied, length-row, row-edit, row-none, row-laid, all-laid}
+use Rattle.records.proofs.Edits.{copied}
+use Rattle.encode.proofs.Laws.{length-row, row-edit, row-none, row-laid, all-laid}
 use Rattle.encode.proofs.write_edits.Statement.{statement}
 use Rattle.encode.proofs.write_edits.Tie as tie
 
@@ -38,7 +39,7 @@ write-entry-requires c κs =
     let r = c .before .before .before .before .loop .r in
     let within : r < length (a .t3) = omega arith in
     let listed : r < a .count = omega arith in
-    let same = copied (a .t3) r within in
+    let same = sym (copied (a .t3) r within) in
     (omega arith, rw same (c .before .before .before .before .before .before .pre .2 .addressed r listed), rw same (c .before .before .before .before .before .before .pre .2 .short r listed))
 
 mul-fill : tie.Need-mul-fill Inv-loop μ-loop
@@ -63,7 +64,7 @@ laid c =
     let fitting = c .before .before .before .before .pre .2 in
     let r = c .before .before .loop .r in
     let within : r < length (a .t3) = omega arith in
-    let same = copied (a .t3) r within in
+    let same = sym (copied (a .t3) r within) in
     ⊎-elim
     (λ w. w .6 ∙ w .3 .ensures ∙ rw (same, row-edit (a .text) (a .t3) (a .count) fitting r (w .0 .taken)))
     (λ w. w .5 ∙ w .2 .ensures ∙ rw (row-none (a .text) (a .t3) (a .count) fitting r (w .0 .left)))

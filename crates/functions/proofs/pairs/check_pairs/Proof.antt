@@ -10,7 +10,7 @@ use Rattle.words.specs.Scan.{scan}
 use Rattle.words.proofs.Scan.{begin, turn, end}
 use Rattle.records.specs.declared.refusal.Verdict.the-variants.{Pass}
 use Rattle.functions.specs.Pairs.{editIn, touched, one-touch, one-pair, pairRules}
-use Rattle.functions.proofs.FunctionLaws.{copied}
+use Rattle.records.proofs.Edits.{copied}
 use Rattle.functions.proofs.pairs.check_pairs.Statement.{statement}
 use Rattle.functions.proofs.pairs.check_pairs.Tie as tie
 

@@ -7,10 +7,11 @@ use lib.ListN.{length}
 use Rattle.records.specs.Limits.{placedMax}
 use Rattle.records.specs.declared.refusal.Verdict.the-variants.{Pass}
 use Rattle.payload.specs.Reading.{readRules}
+use Rattle.words.proofs.Splice.{splice-whole}
 use Rattle.prepare.specs.Prepare.{target, outcome, sizesOk, buildRules, allBuilt}
 use Rattle.prepare.specs.declared.build.Built.{Built}
 use Rattle.prepare.specs.declared.prepare.Prepared.{Prepared}
-use Rattle.prepare.proofs.OutcomeLaws.{splice-whole, wrong-sizes, not-read, not-built, prepared, read-told, read-all, ready-by, build-told, built-all, accepted-is, length-built}
+use Rattle.prepare.proofs.OutcomeLaws.{wrong-sizes, not-read, not-built, prepared, read-told, read-all, ready-by, build-told, built-all, accepted-is, length-built}
 use borrow.Author.Needs.{needs}
 use Rattle.prepare.proofs.prepare.prepare.Statement.{statement}
 use Rattle.prepare.proofs.prepare.prepare.Tie as tie
