@@ -1,0 +1,9 @@
+//! Says where the library to test lies: the folder in the variable URDDOLWY_LIB.
+
+fn main() {
+    println!("cargo:rerun-if-env-changed=URDDOLWY_LIB");
+    if let Ok(folder) = std::env::var("URDDOLWY_LIB") {
+        println!("cargo:rustc-link-search=native={folder}");
+        println!("cargo:rerun-if-changed={folder}/libabi.a");
+    }
+}

@@ -1,0 +1,9 @@
+/* The dependency: a note of type SHT_NOTE, placed. */
+        .section .livepatch.depends, "a", @note
+        .balign 4
+        .long 4, 2f - 1f, 3
+        .asciz "GNU"
+1:      .byte 0x0b, 0xad, 0xc0, 0xde, 0x01, 0x02, 0x03, 0x04, 0x05, 0x06
+        .byte 0x07, 0x08, 0x09, 0x0a, 0x0b, 0x0c, 0x0d, 0x0e, 0x0f, 0x10
+2:      .balign 4
+        .section .note.GNU-stack, "", @progbits
