@@ -8,6 +8,7 @@ ghost use Rattle.machine.specs.Edits.{editBytes};
 ghost use Rattle.encode.specs.Encode.{entrySize, entryOf, editsOf, editsSize, summaryOf, summarySize, Fitting};
 use records::payload::BuildId;
 use records::payload::Edit;
+use records::payload::Payload;
 
 // One entry of the edits from `at` on: the edit's address, its length and its bytes. `text` is the text's address.
 fn write_entry(buffer: &mut [u8], at: usize, text: u64, edit: Edit)
@@ -21,12 +22,12 @@ fn write_entry(buffer: &mut [u8], at: usize, text: u64, edit: Edit)
 }
 
 // All 16 entries, zeros behind the last of `count`.
-pub fn write_edits(buffer: &mut [u8], text: u64, edits: [Edit; 16], count: usize)
+pub fn write_edits(buffer: &mut [u8], text: u64, edits: [Edit; Payload::RECORDS_MAX], count: usize)
     requires { ⌜ (length (now buffer) ≡ editsSize) × (count ≤ recordsMax) × Fitting text edits count ⌝ }
     ensures { λ r. ⌜ now (buffer .exit) ≡ editsOf text edits count ⌝ }
 {
     let mut r = 0;
-    while r < 16 {
+    while r < Payload::RECORDS_MAX {
         if r < count {
             let edit = edits[r];
             write_entry(buffer, 48 * r, text, edit);
@@ -38,7 +39,7 @@ pub fn write_edits(buffer: &mut [u8], text: u64, edits: [Edit; 16], count: usize
 }
 
 // The 32 bytes of an id. An array of a record has a known length only behind a reference to an array.
-fn write_id(buffer: &mut [u8], at: usize, bytes: &[u8; 32])
+fn write_id(buffer: &mut [u8], at: usize, bytes: &[u8; Payload::ID_MAX])
     requires { ⌜ at + idMax ≤ length (now buffer) ⌝ }
     ensures { λ r. ⌜ now (buffer .exit) ≡ splice (now (buffer .entry)) at (now (bytes .entry)) ⌝ }
     ensures { λ r. ⌜ length (now (bytes .entry)) ≡ idMax ⌝ }

@@ -4,6 +4,7 @@ ghost use Prim.Native.Nat.{_≤_};
 ghost use Rattle.records.specs.Limits.{recordsMax};
 ghost use Rattle.functions.specs.Pairs.{touch, pairRules};
 use records::payload::Edit;
+use records::payload::Payload;
 use records::refusal::Place;
 use records::refusal::Reason;
 use records::refusal::Refusal;
@@ -24,7 +25,7 @@ fn touching(a: Edit, b: Edit) -> bool
 }
 
 // Two nested loops, left from the inner one by a label with the later record's number.
-pub(crate) fn check_pairs(edits: [Edit; 16], count: usize) -> Verdict
+pub(crate) fn check_pairs(edits: [Edit; Payload::RECORDS_MAX], count: usize) -> Verdict
     requires { ⌜ count ≤ recordsMax ⌝ }
     ensures { λ r. ⌜ r ≡ pairRules edits count ⌝ }
 {

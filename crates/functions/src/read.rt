@@ -9,6 +9,7 @@ use super::edits::RecordEdit;
 use super::pairs;
 use records::payload::Edit;
 use records::payload::EditKind;
+use records::payload::Payload;
 use records::refusal::Place;
 use records::refusal::Refusal;
 use records::refusal::Verdict;
@@ -16,7 +17,7 @@ use records::refusal::Verdict;
 // The edits, none where the verdict refuses.
 pub struct Functions {
     pub verdict: Verdict,
-    pub edits: [Edit; 16],
+    pub edits: [Edit; Payload::RECORDS_MAX],
     pub count: usize,
 }
 
@@ -30,7 +31,7 @@ fn refuse(r: Refusal) -> Functions
     };
     Functions {
         verdict: Verdict::Refuse(r),
-        edits: [none; 16],
+        edits: [none; Payload::RECORDS_MAX],
         count: 0,
     }
 }
@@ -53,7 +54,7 @@ pub fn read_functions(
         length: 0,
         kind: EditKind::Fill,
     };
-    let mut table = [none; 16];
+    let mut table = [none; Payload::RECORDS_MAX];
     let mut r = 0;
     while r < count {
         match edits::edit_of(text, size, base, placed, list, start + 64 * r) {

@@ -13,7 +13,7 @@ use records::refusal::Reason;
 use records::refusal::Refusal;
 use records::refusal::Verdict;
 
-fn count_of(table: [SectionEntry; 64], count: usize, kind: Kind) -> usize
+fn count_of(table: [SectionEntry; Payload::SECTIONS_MAX], count: usize, kind: Kind) -> usize
     requires { ⌜ count ≤ sectionsMax ⌝ }
     ensures { λ r. ⌜ r ≡ countOf table count kind ⌝ }
 {
@@ -32,7 +32,11 @@ fn count_of(table: [SectionEntry; 64], count: usize, kind: Kind) -> usize
 }
 
 // The first section of a kind, or 0 where there is none.
-pub(crate) fn index_of(table: [SectionEntry; 64], count: usize, kind: Kind) -> usize
+pub(crate) fn index_of(
+    table: [SectionEntry; Payload::SECTIONS_MAX],
+    count: usize,
+    kind: Kind,
+) -> usize
     requires { ⌜ count ≤ sectionsMax ⌝ }
     ensures { λ r. ⌜ (r ≡ indexOf table count kind) × (r < sectionsMax) ⌝ }
 {
@@ -49,7 +53,11 @@ pub(crate) fn index_of(table: [SectionEntry; 64], count: usize, kind: Kind) -> u
     0
 }
 
-fn symbol_table_ok(table: [SectionEntry; 64], count: usize, h: SectionHeader) -> bool
+fn symbol_table_ok(
+    table: [SectionEntry; Payload::SECTIONS_MAX],
+    count: usize,
+    h: SectionHeader,
+) -> bool
     requires { ⌜ count ≤ sectionsMax ⌝ }
     ensures { λ r. ⌜ r ≡ symbolTableOk table count h ⌝ }
 {
@@ -82,7 +90,7 @@ fn records_size_ok(h: SectionHeader) -> bool
 }
 
 // One type 2 section with a right header, one of each of the three names, and a right number of records.
-pub(crate) fn check_counts(table: [SectionEntry; 64], count: usize) -> Verdict
+pub(crate) fn check_counts(table: [SectionEntry; Payload::SECTIONS_MAX], count: usize) -> Verdict
     requires { ⌜ count ≤ sectionsMax ⌝ }
     ensures { λ r. ⌜ r ≡ countRules table count ⌝ }
 {

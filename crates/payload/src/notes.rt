@@ -85,7 +85,11 @@ fn is_note(kind: Kind) -> bool
 }
 
 // The notes in order, up to the first that is none.
-pub(crate) fn check_notes(file: &[u8], table: [SectionEntry; 64], count: usize) -> Verdict
+pub(crate) fn check_notes(
+    file: &[u8],
+    table: [SectionEntry; Payload::SECTIONS_MAX],
+    count: usize,
+) -> Verdict
     requires { ⌜ count ≤ sectionsMax ⌝ }
     ensures { λ r. ⌜ r ≡ noteRules (now (file .entry)) table count ⌝ }
 {

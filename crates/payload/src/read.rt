@@ -22,7 +22,7 @@ use records::refusal::Verdict;
 pub struct Reading {
     pub verdict: Verdict,
     pub count: usize,
-    pub sections: [SectionEntry; 64],
+    pub sections: [SectionEntry; Payload::SECTIONS_MAX],
     // The indices of the symbol table and of the function records.
     pub symbols: usize,
     pub records: usize,
@@ -41,7 +41,7 @@ fn refuse(r: Refusal) -> Reading
     Reading {
         verdict: Verdict::Refuse(r),
         count: 0,
-        sections: [none; 64],
+        sections: [none; Payload::SECTIONS_MAX],
         symbols: 0,
         records: 0,
         id: no_id,
@@ -50,7 +50,7 @@ fn refuse(r: Refusal) -> Reading
 }
 
 // The rules of the section table, in order.
-fn check_table(file: &[u8], table: [SectionEntry; 64], count: usize) -> Verdict
+fn check_table(file: &[u8], table: [SectionEntry; Payload::SECTIONS_MAX], count: usize) -> Verdict
     requires { ⌜ count ≤ sectionsMax ⌝ }
     ensures { λ r. ⌜ r ≡ tableRules (now (file .entry)) table count ⌝ }
 {
@@ -71,7 +71,12 @@ fn check_table(file: &[u8], table: [SectionEntry; 64], count: usize) -> Verdict
 }
 
 // The id in the note of a kind.
-fn id_of(file: &[u8], table: [SectionEntry; 64], count: usize, kind: Kind) -> BuildId
+fn id_of(
+    file: &[u8],
+    table: [SectionEntry; Payload::SECTIONS_MAX],
+    count: usize,
+    kind: Kind,
+) -> BuildId
     requires { ⌜ (count ≤ sectionsMax) × (tableRules (now file) table count ≡ Pass) × (isNoteKind kind ≡ true) ⌝ }
     ensures { λ r. ⌜ r ≡ idOf (now (file .entry)) table count kind ⌝ }
 {
@@ -80,7 +85,7 @@ fn id_of(file: &[u8], table: [SectionEntry; 64], count: usize, kind: Kind) -> Bu
     notes::id_in(sections::contents_of(file, one.header))
 }
 
-fn accept(file: &[u8], table: [SectionEntry; 64], count: usize) -> Reading
+fn accept(file: &[u8], table: [SectionEntry; Payload::SECTIONS_MAX], count: usize) -> Reading
     requires { ⌜ (count ≤ sectionsMax) × (tableRules (now file) table count ≡ Pass) ⌝ }
     ensures { λ r. ⌜ r ≡ accepted (now (file .entry)) table count ⌝ }
 {

@@ -6,6 +6,7 @@ ghost use Rattle.payload.specs.RelocationHeaders.{isTarget, relocationHe
 use super::kinds::Kind;
 use super::sections::SectionEntry;
 use super::sections::{self};
+use records::payload::Payload;
 use records::refusal::Reason;
 use records::refusal::Verdict;
 
@@ -31,7 +32,7 @@ fn is_target(s: SectionEntry) -> bool
 }
 
 fn relocation_header_ok(
-    table: [SectionEntry; 64],
+    table: [SectionEntry; Payload::SECTIONS_MAX],
     count: usize,
     symbols: usize,
     s: SectionEntry,
@@ -59,7 +60,7 @@ fn relocation_header_ok(
 
 // The type 4 sections in order; `symbols` is the symbol table's index.
 pub(crate) fn check_relocation_headers(
-    table: [SectionEntry; 64],
+    table: [SectionEntry; Payload::SECTIONS_MAX],
     count: usize,
     symbols: usize,
 ) -> Verdict

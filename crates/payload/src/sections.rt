@@ -26,6 +26,7 @@ ghost use Rattle.payload.specs.Sections.{
 use super::kinds;
 use super::kinds::Kind;
 use elf::SectionHeader;
+use records::payload::Payload;
 use records::refusal::Place;
 use records::refusal::Reason;
 use records::refusal::Refusal;
@@ -129,7 +130,7 @@ fn entry_at(file: &[u8], names: &[u8], i: u64) -> SectionEntry
 }
 
 // All sections of the file, in a table of 64.
-pub(crate) fn read_sections(file: &[u8]) -> [SectionEntry; 64]
+pub(crate) fn read_sections(file: &[u8]) -> [SectionEntry; Payload::SECTIONS_MAX]
     requires { ⌜ Headed (now file) × (nameTableRules (now file) ≡ Pass) ⌝ }
     ensures { λ r. ⌜ r ≡ sections (now (file .entry)) ⌝ }
 {
@@ -137,7 +138,7 @@ pub(crate) fn read_sections(file: &[u8]) -> [SectionEntry; 64]
     let count = h.e_shnum as usize;
     let names = name_table(file);
     let none = SectionEntry::none();
-    let mut table = [none; 64];
+    let mut table = [none; Payload::SECTIONS_MAX];
     let mut i = 0;
     while i < count {
         let one = entry_at(file, names, i as u64);
@@ -227,7 +228,11 @@ fn check_section(size: u64, i: u16, s: SectionEntry) -> Verdict
 }
 
 // All sections in order, up to the first that breaks a rule.
-pub(crate) fn check_sections(size: u64, table: [SectionEntry; 64], count: usize) -> Verdict
+pub(crate) fn check_sections(
+    size: u64,
+    table: [SectionEntry; Payload::SECTIONS_MAX],
+    count: usize,
+) -> Verdict
     requires { ⌜ count ≤ sectionsMax ⌝ }
     ensures { λ r. ⌜ r ≡ sectionsRules size table count ⌝ }
 {

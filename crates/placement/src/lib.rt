@@ -16,13 +16,13 @@ use records::refusal::Verdict;
 pub struct Placement {
     pub verdict: Verdict,
     // Each section's offset in the slot; 0 for those not placed.
-    pub offsets: [u64; 64],
+    pub offsets: [u64; Payload::SECTIONS_MAX],
     // One more than the largest value that a symbol of the section may have; 0 for those not placed.
-    pub limits: [u64; 64],
+    pub limits: [u64; Payload::SECTIONS_MAX],
     // How many bytes are placed.
     pub placed: u64,
     // The slot's bytes before relocation.
-    pub image: [u8; 8192],
+    pub image: [u8; Payload::PLACED_MAX],
 }
 
 // Where a section starts, and where what is placed ends after it; or that it does not fit.
@@ -112,20 +112,20 @@ fn refuse_at(i: u16) -> Placement
             reason: Reason::NoRoom,
             place: Place::Section(i),
         }),
-        offsets: [0u64; 64],
-        limits: [0u64; 64],
+        offsets: [0u64; Payload::SECTIONS_MAX],
+        limits: [0u64; Payload::SECTIONS_MAX],
         placed: 0,
         image: [0u8; Payload::PLACED_MAX],
     }
 }
 
 // The placed sections in index order, each at the next multiple of its alignment.
-pub fn place(file: &[u8], table: [SectionEntry; 64], count: usize) -> Placement
+pub fn place(file: &[u8], table: [SectionEntry; Payload::SECTIONS_MAX], count: usize) -> Placement
     requires { ⌜ count ≤ sectionsMax ⌝ }
     ensures { λ r. ⌜ r ≡ placementOf (now (file .entry)) table count ⌝ }
 {
-    let mut offsets = [0u64; 64];
-    let mut limits = [0u64; 64];
+    let mut offsets = [0u64; Payload::SECTIONS_MAX];
+    let mut limits = [0u64; Payload::SECTIONS_MAX];
     let mut image = [0u8; Payload::PLACED_MAX];
     let mut end = 0;
     let mut i = 0;

@@ -13,9 +13,9 @@ use records::refusal::Verdict;
 pub struct Built {
     pub verdict: Verdict,
     pub placed: u64,
-    pub edits: [Edit; 16],
+    pub edits: [Edit; Payload::RECORDS_MAX],
     pub edit_count: usize,
-    pub image: [u8; 8192],
+    pub image: [u8; Payload::PLACED_MAX],
 }
 
 fn nothing_built(r: Refusal) -> Built
@@ -40,7 +40,7 @@ pub(crate) fn build(
     text: u64,
     size: u64,
     base: u64,
-    table: [SectionEntry; 64],
+    table: [SectionEntry; Payload::SECTIONS_MAX],
     count: usize,
     symbols: usize,
     records: usize,

@@ -18,7 +18,7 @@ pub struct Prepared {
     pub id: BuildId,
     pub dependency: BuildId,
     pub placed: u64,
-    pub edits: [Edit; 16],
+    pub edits: [Edit; Payload::RECORDS_MAX],
     pub edit_count: usize,
 }
 

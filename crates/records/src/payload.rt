@@ -20,13 +20,13 @@ pub struct Edit {
 
 // A build-id: `length` bytes, and zeros after them.
 pub struct BuildId {
-    pub bytes: [u8; 32],
+    pub bytes: [u8; Payload::ID_MAX],
     pub length: u32,
 }
 
 // Document 01: "Status: 1 checked, 2 applied." The last result is kept as its magnitude.
 pub struct Payload {
-    pub name: [u8; 128],
+    pub name: [u8; Payload::NAME_MAX],
     pub name_length: u32,
     pub slot: u32,
     pub status: u32,
@@ -34,7 +34,7 @@ pub struct Payload {
     pub id_length: u32,
     pub dependency: BuildId,
     pub placed: u32,
-    pub edits: [Edit; 16],
+    pub edits: [Edit; Payload::RECORDS_MAX],
     pub edit_count: u32,
 }
 

@@ -16,6 +16,7 @@ use super::fields::{self};
 use payload::kinds::Kind;
 use payload::sections::SectionEntry;
 use payload::sections::{self};
+use records::payload::Payload;
 use records::refusal::Place;
 use records::refusal::Refusal;
 use records::refusal::Verdict;
@@ -79,7 +80,7 @@ fn relocate_entries(
 }
 
 // Whether the section's relocations are made: those of an ignored target are ignored too.
-fn is_relocating(table: [SectionEntry; 64], s: SectionEntry) -> bool
+fn is_relocating(table: [SectionEntry; Payload::SECTIONS_MAX], s: SectionEntry) -> bool
     requires { ⌜ (isKind (s .kind) Relocations ≡ true → s .header .«sh_info» < sectionsMax) ⌝ }
     ensures { λ r. ⌜ r ≡ isRelocating table s ⌝ }
 {
@@ -101,7 +102,7 @@ fn is_relocating(table: [SectionEntry; 64], s: SectionEntry) -> bool
 fn relocate_section(
     image: &mut [u8],
     file: &[u8],
-    table: [SectionEntry; 64],
+    table: [SectionEntry; Payload::SECTIONS_MAX],
     count: usize,
     symbols: usize,
     base: u64,
@@ -148,7 +149,7 @@ fn relocate_section(
 pub fn relocate(
     image: &mut [u8],
     file: &[u8],
-    table: [SectionEntry; 64],
+    table: [SectionEntry; Payload::SECTIONS_MAX],
     count: usize,
     symbols: usize,
     base: u64,
