@@ -6,9 +6,6 @@ use differential::second::refusal::in_words;
 use differential::second::{self, Surroundings};
 use differential::stated::Stated;
 
-/// Whether the library's prepare is compared too.
-pub const PREPARE: bool = cfg!(feature = "prepare");
-
 /// The answers of one loader, and its buffers after them.
 struct Answers {
     symbols: u64,
@@ -68,10 +65,7 @@ impl Surrounded {
 fn library_answers(input: &Input, fill: u8) -> Answers {
     let (file, list) = (Surrounded::new(&input.file, fill), Surrounded::new(&input.list, fill));
     let mut wide = input.buffers.map(|len| Surrounded::new(&pattern(len), fill));
-    let mut prepare = 0;
-    if PREPARE {
-        prepare = abi::prepare(file.inner(), list.inner(), input, wide.each_mut().map(Surrounded::inner_mut));
-    }
+    let prepare = abi::prepare(file.inner(), list.inner(), input, wide.each_mut().map(Surrounded::inner_mut));
     let strayed = wide.iter().any(|buffer| buffer.strayed(fill));
     let buffers = wide.map(|buffer| buffer.inner().to_vec());
     let (symbols, file) = (abi::check_symbols(list.inner()), abi::check_file(file.inner()));
@@ -80,12 +74,9 @@ fn library_answers(input: &Input, fill: u8) -> Answers {
 
 fn second_answers(input: &Input) -> Answers {
     let mut buffers = input.buffers.map(pattern);
-    let mut prepare = 0;
-    if PREPARE {
-        let around = Surroundings { text_base: input.text_base, text_len: input.text_len, slot_base: input.slot_base };
-        let [image, edits, summary] = &mut buffers;
-        prepare = second::prepare_into(&input.file, &input.list, &around, [image, edits, summary]);
-    }
+    let around = Surroundings { text_base: input.text_base, text_len: input.text_len, slot_base: input.slot_base };
+    let [image, edits, summary] = &mut buffers;
+    let prepare = second::prepare_into(&input.file, &input.list, &around, [image, edits, summary]);
     let (symbols, file) = (second::check_symbols(&input.list), second::check_file(&input.file));
     Answers { symbols, file, prepare, buffers, strayed: false }
 }
@@ -100,12 +91,12 @@ pub fn compare(input: &Input, stated: &Stated, fill: u8) -> Outcome {
     let calls = [
         ("check_symbols", stated.symbols, library.symbols, second.symbols),
         ("check_file", stated.file, library.file, second.file),
-        ("prepare", stated.prepare.filter(|_| PREPARE), library.prepare, second.prepare),
+        ("prepare", stated.prepare, library.prepare, second.prepare),
     ];
     let answer =
         calls.into_iter().find_map(|(call, stated, library, second)| answers_differ(call, stated, library, second));
     let difference = answer.or_else(|| buffers_differ(&library, &second)).or_else(|| not_as_stated(&library, stated));
-    let payload = if PREPARE { library.prepare } else { library.file };
+    let payload = library.prepare;
     Outcome { symbols: library.symbols, payload, buffers: library.buffers, difference }
 }
 
@@ -144,7 +135,7 @@ fn buffers_differ(library: &Answers, second: &Answers) -> Option<String> {
 }
 
 fn not_as_stated(answers: &Answers, stated: &Stated) -> Option<String> {
-    if !PREPARE || answers.prepare != 0 {
+    if answers.prepare != 0 {
         return None;
     }
     for (buffer, at, bytes) in &stated.bytes {

@@ -1,6 +1,6 @@
 //! The generated groups: each has a seed and a number of cases, and counts as one test.
 
-use crate::compare::{compare, PREPARE};
+use crate::compare::compare;
 use crate::report::{Report, Tally};
 use differential::damage::{damage, free_bytes, symbol_list, Focus};
 use differential::mutations::{table, Table};
@@ -25,13 +25,6 @@ enum Kind {
     Damaged(Focus),
 }
 
-impl Kind {
-    /// Whether nothing of it is seen without prepare.
-    fn needs_prepare(self) -> bool {
-        let late = [Focus::Symbols, Focus::Relocations, Focus::Records, Focus::Surroundings];
-        matches!(self, Kind::Damaged(focus) if late.contains(&focus)) || matches!(self, Kind::Edge)
-    }
-}
 
 /// Kinds, their names, and their parts of all cases.
 const KINDS: [(Kind, &str, u64); 18] = [
@@ -64,7 +57,7 @@ const COPIES: u64 = 16;
 /// Runs all groups, with so many cases in all, or a few more.
 pub fn run(seed: u64, cases: u64, report: &mut Report) {
     let mut seeds = Rng::new(seed);
-    let kinds = || KINDS.into_iter().filter(|(kind, _, _)| PREPARE || !kind.needs_prepare());
+    let kinds = || KINDS.into_iter();
     let whole: u64 = kinds().map(|(_, _, part)| part).sum();
     for (kind, name, part) in kinds() {
         for _ in 0..GROUPS {

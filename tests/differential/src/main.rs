@@ -62,7 +62,6 @@ fn main() -> ExitCode {
     };
     // A panic of the second loader is reported as a difference; other panics are of changes that don't go together.
     std::panic::set_hook(Box::new(|_| ()));
-    println!("prepare is {}compared", if compare::PREPARE { "" } else { "not " });
     println!("seed {:#018x}, {} generated cases", options.seed, options.cases);
     let mut report = report::Report::new(options.work.join("first-difference"));
     rows::run(options.verbose, &mut report);

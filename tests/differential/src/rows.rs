@@ -1,8 +1,8 @@
 //! The named rows: each counts as one test, on some variants of the template; printed by rule.
 
-use crate::compare::{compare, PREPARE};
+use crate::compare::compare;
 use crate::report::Report;
-use differential::mutations::{table, Call, Row};
+use differential::mutations::{table, Row};
 
 /// Tests and cases of one rule.
 struct Rule {
@@ -15,10 +15,10 @@ struct Rule {
 /// So many failed rows are printed, the others only counted.
 const SHOWN: u64 = 40;
 
-/// Runs every row that the library has the calls for.
+/// Runs every row.
 pub fn run(verbose: bool, report: &mut Report) {
     let mut rules: Vec<Rule> = Vec::new();
-    for row in table().rows.iter().filter(|row| PREPARE || row.call != Call::Prepare) {
+    for row in &table().rows {
         let differences = run_row(row, report);
         if verbose {
             let verdict = if differences == 0 { "ok" } else { "FAILED" };
