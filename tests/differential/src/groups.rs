@@ -25,7 +25,6 @@ enum Kind {
     Damaged(Focus),
 }
 
-
 /// Kinds, their names, and their parts of all cases.
 const KINDS: [(Kind, &str, u64); 18] = [
     (Kind::ValidLists, "valid symbol lists", 2),
