@@ -19,8 +19,8 @@ use Rattle.records.proofs.Checks.{then-pass}
 use Rattle.symbols.specs.SymbolList.{valid}
 use Rattle.payload.specs.Counts.{indexOf}
 use Rattle.payload.specs.Reading.{readRules}
-use Rattle.payload.specs.Sections.{sections, sectionCount}
-use Rattle.payload.specs.declared.kinds.Kind.the-variants.{Symbols}
+use Rattle.object.specs.Sections.{sections, sectionCount}
+use Rattle.object.specs.declared.kinds.Kind.the-variants.{Symbols}
 use Rattle.placement.specs.Placement.{placementRules}
 use Rattle.functions.specs.Functions.{functionRules}
 use Rattle.encode.specs.Encode.{Fitting, editsOf, editsSize, summaryOf, summarySize}

@@ -11,11 +11,11 @@ use Rattle.words.specs.Scan.{scan}
 use Rattle.words.proofs.Scan.{begin, turn, end, Miss, searched}
 use Rattle.records.specs.declared.refusal.Verdict.the-variants.{Pass}
 use Rattle.payload.specs.Counts.{one-counted, countOf, indexOf, symbolTableOk, recordsSizeOk, countRules}
-use Rattle.payload.specs.Kinds.{codeOf, isKind}
-use Rattle.payload.specs.Sections.{sectionIn}
-use Rattle.payload.specs.declared.kinds.Kind.{Kind}
-use Rattle.payload.specs.declared.kinds.Kind.the-variants.{Records, Depends, BuildId, Symbols}
-use Rattle.payload.specs.declared.sections.SectionEntry.{SectionEntry}
+use Rattle.object.specs.Kinds.{codeOf, isKind}
+use Rattle.object.specs.Sections.{sectionIn}
+use Rattle.object.specs.declared.kinds.Kind.{Kind}
+use Rattle.object.specs.declared.kinds.Kind.the-variants.{Records, Depends, BuildId, Symbols}
+use Rattle.object.specs.declared.sections.SectionEntry.{SectionEntry}
 use Rattle.records.proofs.Checks.{must-pass, then-pass}
 
 -- ---- the loops, which know a kind by its number

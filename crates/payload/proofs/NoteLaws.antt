@@ -20,8 +20,8 @@ use Rattle.records.specs.declared.refusal.Verdict.the-variants.{Pass}
 use Rattle.elf.specs.Layout.{noteOf}
 use Rattle.elf.specs.declared.Note.{Note}
 use Rattle.payload.specs.Notes.{idLength, padded, noteHeadOk, noteOk, idIn, isNoteKind, noteRules}
-use Rattle.payload.specs.Sections.{sectionIn, contentsOf}
-use Rattle.payload.specs.declared.sections.SectionEntry.{SectionEntry}
+use Rattle.object.specs.Sections.{sectionIn, contentsOf}
+use Rattle.object.specs.declared.sections.SectionEntry.{SectionEntry}
 use Rattle.records.proofs.Checks.{must-pass, scan-passes}
 
 -- the rest of a list, to its end

@@ -11,15 +11,15 @@ use Rattle.records.specs.declared.refusal.Verdict.{Verdict}
 use Rattle.records.specs.declared.refusal.Verdict.the-variants.{Pass, Refuse}
 use Rattle.records.proofs.Checks.{then-pass}
 use Rattle.payload.specs.Counts.{countOf, indexOf, countRules}
-use Rattle.payload.specs.Header.{headerRules}
-use Rattle.payload.specs.Kinds.{codeOf, isKind}
+use Rattle.object.specs.Header.{headerRules}
+use Rattle.object.specs.Kinds.{codeOf, isKind}
 use Rattle.payload.specs.Notes.{noteOk, isNoteKind, noteRules}
 use Rattle.payload.specs.Reading.{tableRules, readRules, readingBy, readingOf}
 use Rattle.payload.specs.RelocationHeaders.{relocationHeaderRules}
-use Rattle.payload.specs.Sections.{sectionCount, sections, sectionIn, contentsOf, nameTableRules, sectionsRules}
-use Rattle.payload.specs.declared.kinds.Kind.{Kind}
-use Rattle.payload.specs.declared.kinds.Kind.the-variants.{Null, Unnamed, Placed, Records, Depends, BuildId, Symbols, Strings, Relocations, Ignored, Unknown}
-use Rattle.payload.specs.declared.sections.SectionEntry.{SectionEntry}
+use Rattle.object.specs.Sections.{sectionCount, sections, sectionIn, contentsOf, nameTableRules, sectionsRules}
+use Rattle.object.specs.declared.kinds.Kind.{Kind}
+use Rattle.object.specs.declared.kinds.Kind.the-variants.{Null, Unnamed, Placed, Records, Depends, BuildId, Symbols, Strings, Relocations, Ignored, Unknown}
+use Rattle.object.specs.declared.sections.SectionEntry.{SectionEntry}
 use Rattle.payload.proofs.CountLaws.{CountsPass, counts-pass, index-found}
 use Rattle.payload.proofs.NoteLaws.{note-passes}
 

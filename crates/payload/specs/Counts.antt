@@ -10,11 +10,11 @@ use Rattle.records.specs.declared.refusal.Reason.the-variants.{Invalid}
 use Rattle.records.specs.declared.refusal.Place.the-variants.{Nowhere, Section}
 use Rattle.records.specs.declared.refusal.Verdict.{Verdict}
 use Rattle.elf.specs.declared.SectionHeader.{SectionHeader}
-use Rattle.payload.specs.Kinds.{hasType, isKind}
-use Rattle.payload.specs.Sections.{sectionIn}
-use Rattle.payload.specs.declared.kinds.Kind.{Kind}
-use Rattle.payload.specs.declared.kinds.Kind.the-variants.{Records, Depends, BuildId, Symbols}
-use Rattle.payload.specs.declared.sections.SectionEntry.{SectionEntry}
+use Rattle.object.specs.Kinds.{hasType, isKind}
+use Rattle.object.specs.Sections.{sectionIn}
+use Rattle.object.specs.declared.kinds.Kind.{Kind}
+use Rattle.object.specs.declared.kinds.Kind.the-variants.{Records, Depends, BuildId, Symbols}
+use Rattle.object.specs.declared.sections.SectionEntry.{SectionEntry}
 
 -- how many of the first n sections are of a kind
 abbrev pub one-counted : List SectionEntry → Kind → ℕ → ℕ → ℕ

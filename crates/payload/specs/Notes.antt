@@ -16,11 +16,11 @@ use Rattle.records.specs.declared.refusal.Verdict.{Verdict}
 use Rattle.records.specs.declared.refusal.Verdict.the-variants.{Pass}
 use Rattle.elf.specs.Layout.{noteOf}
 use Rattle.elf.specs.declared.Note.{Note}
-use Rattle.payload.specs.Kinds.{isKind}
-use Rattle.payload.specs.Sections.{sectionIn, contentsOf}
-use Rattle.payload.specs.declared.kinds.Kind.{Kind}
-use Rattle.payload.specs.declared.kinds.Kind.the-variants.{Depends}
-use Rattle.payload.specs.declared.sections.SectionEntry.{SectionEntry}
+use Rattle.object.specs.Kinds.{isKind}
+use Rattle.object.specs.Sections.{sectionIn, contentsOf}
+use Rattle.object.specs.declared.kinds.Kind.{Kind}
+use Rattle.object.specs.declared.kinds.Kind.the-variants.{Depends}
+use Rattle.object.specs.declared.sections.SectionEntry.{SectionEntry}
 
 -- the length d of the id that a note holds
 abbrev pub idLength : List ℕ → ℕ

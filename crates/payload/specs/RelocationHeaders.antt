@@ -9,10 +9,10 @@ use Rattle.records.specs.declared.refusal.Reason.the-variants.{Invalid}
 use Rattle.records.specs.declared.refusal.Place.the-variants.{Section}
 use Rattle.records.specs.declared.refusal.Verdict.{Verdict}
 use Rattle.records.specs.declared.refusal.Verdict.the-variants.{Pass}
-use Rattle.payload.specs.Kinds.{hasType, isKind}
-use Rattle.payload.specs.Sections.{sectionIn}
-use Rattle.payload.specs.declared.kinds.Kind.the-variants.{Placed, Records, Relocations, Ignored}
-use Rattle.payload.specs.declared.sections.SectionEntry.{SectionEntry}
+use Rattle.object.specs.Kinds.{hasType, isKind}
+use Rattle.object.specs.Sections.{sectionIn}
+use Rattle.object.specs.declared.kinds.Kind.the-variants.{Placed, Records, Relocations, Ignored}
+use Rattle.object.specs.declared.sections.SectionEntry.{SectionEntry}
 
 -- "either a placed section, neither type 8 nor one of the two notes, or an ignored one of type 1"
 unfoldable pub isTarget : SectionEntry → Bool

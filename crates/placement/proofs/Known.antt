@@ -7,8 +7,8 @@ use Rattle.records.specs.Verdict.{refusal}
 use Rattle.records.specs.declared.refusal.Reason.the-variants.{NoRoom}
 use Rattle.records.specs.declared.refusal.Place.the-variants.{Section}
 use Rattle.records.specs.declared.refusal.Verdict.the-variants.{Pass, Refuse}
-use Rattle.payload.specs.declared.kinds.Kind.the-variants.{Placed}
-use Rattle.payload.specs.declared.sections.SectionEntry.{SectionEntry}
+use Rattle.object.specs.declared.kinds.Kind.the-variants.{Placed}
+use Rattle.object.specs.declared.sections.SectionEntry.{SectionEntry}
 use Rattle.placement.specs.Placement.{isPlaced, nextMultiple, endBefore, offsetOf, placementRules}
 
 -- a placed section by its size and alignment

@@ -17,9 +17,9 @@ use Rattle.records.specs.declared.refusal.Reason.the-variants.{NoRoom}
 use Rattle.records.specs.declared.refusal.Place.the-variants.{Section}
 use Rattle.records.specs.declared.refusal.Verdict.the-variants.{Pass}
 use Rattle.records.proofs.Checks.{must-pass, scan-passes}
-use Rattle.payload.specs.Kinds.{hasType}
-use Rattle.payload.specs.Sections.{sectionIn, contentsOf}
-use Rattle.payload.specs.declared.sections.SectionEntry.{SectionEntry}
+use Rattle.object.specs.Kinds.{hasType}
+use Rattle.object.specs.Sections.{sectionIn, contentsOf}
+use Rattle.object.specs.declared.sections.SectionEntry.{SectionEntry}
 use Rattle.placement.specs.Placement.{isPlaced, nextMultiple, startFrom, endFrom, endBefore, offsetOf, limitFor, placementRules, hasContents, imageBefore}
 
 -- ---- the next multiple

@@ -15,8 +15,8 @@ use Rattle.records.specs.Verdict.{refusal}
 use Rattle.records.specs.declared.refusal.Reason.the-variants.{NoRoom}
 use Rattle.records.specs.declared.refusal.Place.the-variants.{Section}
 use Rattle.records.specs.declared.refusal.Verdict.the-variants.{Pass, Refuse}
-use Rattle.payload.specs.Sections.{sectionIn}
-use Rattle.payload.specs.declared.sections.SectionEntry.{SectionEntry}
+use Rattle.object.specs.Sections.{sectionIn}
+use Rattle.object.specs.declared.sections.SectionEntry.{SectionEntry}
 use Rattle.placement.specs.declared.Placement.{Placement}
 use Rattle.placement.specs.declared.Step.{Step}
 use Rattle.placement.specs.declared.Step.the-variants.{At, Over}

@@ -14,11 +14,11 @@ use Rattle.records.specs.declared.refusal.Place.the-variants.{Section}
 use Rattle.records.specs.declared.refusal.Refusal.{Refusal}
 use Rattle.records.specs.declared.refusal.Verdict.{Verdict}
 use Rattle.records.specs.declared.refusal.Verdict.the-variants.{Pass, Refuse}
-use Rattle.payload.specs.Kinds.{isAllocated, hasType, isKind}
+use Rattle.object.specs.Kinds.{isAllocated, hasType, isKind}
 use Rattle.payload.specs.Notes.{isNoteKind}
-use Rattle.payload.specs.Sections.{sectionIn, contentsOf}
-use Rattle.payload.specs.declared.kinds.Kind.the-variants.{Placed, Records}
-use Rattle.payload.specs.declared.sections.SectionEntry.{SectionEntry}
+use Rattle.object.specs.Sections.{sectionIn, contentsOf}
+use Rattle.object.specs.declared.kinds.Kind.the-variants.{Placed, Records}
+use Rattle.object.specs.declared.sections.SectionEntry.{SectionEntry}
 use Rattle.placement.specs.declared.Placement.{Placement}
 use Rattle.placement.specs.declared.Step.{Step}
 use Rattle.placement.specs.declared.Step.the-variants.{At, Over}

@@ -7,8 +7,8 @@ use Rattle.records.specs.Limits.{sectionsMax}
 use Rattle.records.specs.declared.refusal.Refusal.{Refusal}
 use Rattle.records.specs.declared.refusal.Verdict.{Verdict}
 use Rattle.records.specs.declared.refusal.Verdict.the-variants.{Pass, Refuse}
-use Rattle.payload.specs.Sections.{sections, sectionCount, sectionIn}
-use Rattle.payload.specs.declared.sections.SectionEntry.{SectionEntry}
+use Rattle.object.specs.Sections.{sections, sectionCount, sectionIn}
+use Rattle.object.specs.declared.sections.SectionEntry.{SectionEntry}
 use Rattle.words.proofs.Scan.{getD-filled}
 use Rattle.placement.specs.Placement.{offsetOf, placementRules, placedBy, placementOf}
 use Rattle.placement.specs.declared.Placement.{Placement}

@@ -14,8 +14,8 @@ use Rattle.records.specs.declared.refusal.Verdict.{Verdict}
 use Rattle.records.specs.declared.refusal.Verdict.the-variants.{Pass, Refuse}
 use Rattle.payload.specs.Counts.{indexOf}
 use Rattle.payload.specs.Reading.{readRules, accepted, readingBy, readingOf}
-use Rattle.payload.specs.Sections.{sections, sectionCount}
-use Rattle.payload.specs.declared.kinds.Kind.the-variants.{Symbols}
+use Rattle.object.specs.Sections.{sections, sectionCount}
+use Rattle.object.specs.declared.kinds.Kind.the-variants.{Symbols}
 use Rattle.payload.specs.declared.read.Reading.{Reading}
 use Rattle.payload.proofs.ReadingLaws.{verdict-read}
 use Rattle.placement.specs.Placement.{imageBefore, placementRules}

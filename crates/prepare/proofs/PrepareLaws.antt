@@ -16,15 +16,15 @@ use Rattle.records.specs.declared.refusal.Place.the-variants.{Section}
 use Rattle.records.specs.declared.refusal.Verdict.the-variants.{Pass}
 use Rattle.records.proofs.Checks.{must-pass, then-pass, scan-passes}
 use Rattle.payload.specs.Counts.{indexOf, symbolTableOk, recordsSizeOk}
-use Rattle.payload.specs.Header.{Headed, headerRules}
-use Rattle.payload.specs.Kinds.{hasType, isKind}
+use Rattle.object.specs.Header.{Headed, headerRules}
+use Rattle.object.specs.Kinds.{hasType, isKind}
 use Rattle.payload.specs.Reading.{tableRules, readRules}
 use Rattle.payload.specs.RelocationHeaders.{isTarget, relocationHeaderOk, relocationHeaderRules}
-use Rattle.payload.specs.Sections.{sectionCount, sections, sectionIn, nameTableRules}
-use Rattle.payload.specs.declared.kinds.Kind.the-variants.{Placed, Records, Symbols, Relocations, Ignored}
-use Rattle.payload.specs.declared.sections.SectionEntry.{SectionEntry}
+use Rattle.object.specs.Sections.{sectionCount, sections, sectionIn, nameTableRules}
+use Rattle.object.specs.declared.kinds.Kind.the-variants.{Placed, Records, Symbols, Relocations, Ignored}
+use Rattle.object.specs.declared.sections.SectionEntry.{SectionEntry}
 use Rattle.payload.proofs.CountLaws.{CountsPass, counts-pass, index-found}
-use Rattle.payload.proofs.HeaderLaws.{headed}
+use Rattle.object.proofs.HeaderLaws.{headed}
 use Rattle.payload.proofs.ReadingLaws.{TablePasses, table-passes}
 use Rattle.placement.specs.Placement.{isPlaced, endBefore, offsetOf, limitOf, imageBefore, placementRules}
 use Rattle.placement.proofs.PlacementLaws.{placed-inside, end-inside, length-image}

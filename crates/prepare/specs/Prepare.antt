@@ -16,10 +16,10 @@ use Rattle.records.specs.declared.refusal.Verdict.{Verdict}
 use Rattle.records.specs.declared.refusal.Verdict.the-variants.{Pass, Refuse}
 use Rattle.payload.specs.Counts.{indexOf}
 use Rattle.payload.specs.Reading.{readRules, idOf}
-use Rattle.payload.specs.Sections.{sectionCount, sections, sectionIn}
-use Rattle.payload.specs.declared.kinds.Kind.{Kind}
-use Rattle.payload.specs.declared.kinds.Kind.the-variants.{Records, Depends, Symbols}
-use Rattle.payload.specs.declared.sections.SectionEntry.{SectionEntry}
+use Rattle.object.specs.Sections.{sectionCount, sections, sectionIn}
+use Rattle.object.specs.declared.kinds.Kind.{Kind}
+use Rattle.object.specs.declared.kinds.Kind.the-variants.{Records, Depends, Symbols}
+use Rattle.object.specs.declared.sections.SectionEntry.{SectionEntry}
 use Rattle.placement.specs.Placement.{endBefore, offsetOf, limitOf, imageBefore, placementRules}
 use Rattle.relocation.specs.Relocating.{Relocated, linkingOf, relocateAll}
 use Rattle.functions.specs.Functions.{Patching, patching, functionRules, editsOf}

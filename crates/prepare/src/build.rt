@@ -3,7 +3,7 @@ ghost use mathlib.Core.Path.{_≡_};
 ghost use Prim.Native.Nat.{_≤_};
 ghost use Rattle.records.specs.Limits.{textMax};
 ghost use Rattle.prepare.specs.Prepare.{target, nothingBuilt, Ready, builtOf};
-use payload::sections::SectionEntry;
+use object::sections::SectionEntry;
 use records::payload::Edit;
 use records::payload::Payload;
 use records::refusal::Refusal;

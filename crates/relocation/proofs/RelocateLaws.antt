@@ -22,10 +22,10 @@ use Rattle.records.specs.declared.refusal.Verdict.the-variants.{Pass, Refuse}
 use Rattle.elf.specs.Layout.{relocationOf}
 use Rattle.elf.specs.declared.Relocation.{Relocation}
 use Rattle.elf.specs.declared.SectionHeader.{SectionHeader}
-use Rattle.payload.specs.Kinds.{isKind}
-use Rattle.payload.specs.Sections.{sectionIn, contentsOf}
-use Rattle.payload.specs.declared.kinds.Kind.the-variants.{Relocations}
-use Rattle.payload.specs.declared.sections.SectionEntry.{SectionEntry}
+use Rattle.object.specs.Kinds.{isKind}
+use Rattle.object.specs.Sections.{sectionIn, contentsOf}
+use Rattle.object.specs.declared.kinds.Kind.the-variants.{Relocations}
+use Rattle.object.specs.declared.sections.SectionEntry.{SectionEntry}
 use Rattle.relocation.specs.Entries.{entryCount, nextOf}
 use Rattle.relocation.specs.Linking.{Linking}
 use Rattle.relocation.specs.Relocating.{

@@ -19,10 +19,10 @@ use Rattle.elf.specs.declared.Relocation as elf
 use Rattle.machine.specs.Relocations.{typeOf, widthOf, valueOf, inRange}
 use Rattle.machine.specs.declared.RelocationType.{RelocationType}
 use Rattle.machine.specs.declared.RelocationType.the-variants.{Nothing, Absolute, Relative, Unknown}
-use Rattle.payload.specs.Kinds.{isKind}
-use Rattle.payload.specs.Sections.{sectionIn, contentsOf}
-use Rattle.payload.specs.declared.kinds.Kind.the-variants.{Relocations, Ignored}
-use Rattle.payload.specs.declared.sections.SectionEntry.{SectionEntry}
+use Rattle.object.specs.Kinds.{isKind}
+use Rattle.object.specs.Sections.{sectionIn, contentsOf}
+use Rattle.object.specs.declared.kinds.Kind.the-variants.{Relocations, Ignored}
+use Rattle.object.specs.declared.sections.SectionEntry.{SectionEntry}
 use Rattle.relocation.specs.Entries.{entryCount}
 use Rattle.relocation.specs.Linking.{Linking, sectionAddress, linking}
 use Rattle.relocation.specs.Symbols.{symbolValue}

@@ -5,7 +5,7 @@ use mathlib.Core.Logic.{⊎-elim}
 use native.Mathlib.Omega.{arith}
 use borrow.Author.Needs.{needs}
 use lib.ListN.{length}
-use Rattle.payload.specs.Sections.{sectionIn, noEntry}
+use Rattle.object.specs.Sections.{sectionIn, noEntry}
 use Rattle.placement.specs.declared.Step.the-variants.{At}
 use Rattle.placement.specs.Placement.{stepOf}
 use Rattle.placement.proofs.PlacementLaws.{limit-inside, contents-inside, laid}

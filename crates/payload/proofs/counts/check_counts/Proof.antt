@@ -3,7 +3,7 @@
 use native.Mathlib.Omega.{arith}
 use borrow.Author.Needs.{needs}
 use Rattle.payload.specs.Counts.{countRules}
-use Rattle.payload.specs.Sections.{noEntry}
+use Rattle.object.specs.Sections.{noEntry}
 use Rattle.words.proofs.Tests.{held, refuted, equals, differs}
 use Rattle.payload.proofs.counts.check_counts.Statement.{statement}
 use Rattle.payload.proofs.counts.check_counts.Tie as tie

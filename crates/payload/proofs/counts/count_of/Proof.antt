@@ -4,7 +4,7 @@ use mathlib.Core.Path.{_≡_, sym, _∙_}
 use mathlib.Core.Logic.{⊎-elim}
 use native.Mathlib.Omega.{arith}
 use borrow.Author.Needs.{needs}
-use Rattle.payload.specs.Sections.{noEntry}
+use Rattle.object.specs.Sections.{noEntry}
 use Rattle.payload.proofs.CountLaws.{count-from, count-begin, count-end, count-hit, count-miss, counted}
 use Rattle.payload.proofs.counts.count_of.Statement.{statement}
 use Rattle.payload.proofs.counts.count_of.Tie as tie

@@ -4,7 +4,7 @@ use mathlib.Core.Path.{_≡_, sym, _∙_}
 use native.Mathlib.Omega.{arith}
 use borrow.Author.Needs.{needs}
 use Rattle.words.proofs.Scan.{begin, end}
-use Rattle.payload.specs.Sections.{noEntry}
+use Rattle.object.specs.Sections.{noEntry}
 use Rattle.payload.proofs.CountLaws.{index-from, index-hit, index-miss, indexed}
 use Rattle.payload.proofs.counts.index_of.Statement.{statement}
 use Rattle.payload.proofs.counts.index_of.Tie as tie

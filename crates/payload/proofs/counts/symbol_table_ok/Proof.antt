@@ -2,7 +2,7 @@
 use borrow.Author.Needs.{needs}
 use borrow.Author.Tests.{lt-ltb, le-ltb, eq-eqb, ne-eqb}
 use Rattle.payload.specs.Counts.{symbolTableOk}
-use Rattle.payload.specs.Sections.{noEntry}
+use Rattle.object.specs.Sections.{noEntry}
 use Rattle.payload.proofs.counts.symbol_table_ok.Statement.{statement}
 use Rattle.payload.proofs.counts.symbol_table_ok.Tie as tie
 

@@ -8,7 +8,7 @@ use Rattle.words.specs.Scan.{scan}
 use Rattle.words.proofs.Scan.{begin, turn, end}
 use Rattle.records.specs.declared.refusal.Verdict.the-variants.{Pass}
 use Rattle.payload.specs.Notes.{noteOk, one-note, noteRules}
-use Rattle.payload.specs.Sections.{noEntry}
+use Rattle.object.specs.Sections.{noEntry}
 use Rattle.words.proofs.Tests.{held, refuted}
 use Rattle.payload.proofs.notes.check_notes.Statement.{statement}
 use Rattle.payload.proofs.notes.check_notes.Tie as tie

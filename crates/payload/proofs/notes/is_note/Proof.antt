@@ -3,8 +3,8 @@ use Prim.Native.Nat.{ℕ}
 use mathlib.Core.Bool.{or-true}
 use mathlib.Core.List.{List, [], _∷_}
 use mathlib.Core.Logic.{⊎-elim}
-use Rattle.payload.specs.declared.kinds.Kind.the-variants.{Depends, BuildId}
-use Rattle.payload.proofs.Arms.{this-kind, other-kind}
+use Rattle.object.specs.declared.kinds.Kind.the-variants.{Depends, BuildId}
+use Rattle.object.proofs.Arms.{this-kind, other-kind}
 use Rattle.payload.proofs.notes.is_note.Statement.{statement}
 use Rattle.payload.proofs.notes.is_note.Tie as tie
 

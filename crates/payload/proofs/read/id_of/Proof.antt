@@ -1,6 +1,6 @@
 -- `read::id_of` meets its contract: the one note of its kind is right.
 
-use Rattle.payload.specs.Sections.{noEntry}
+use Rattle.object.specs.Sections.{noEntry}
 use Rattle.payload.proofs.ReadingLaws.{note-found}
 use borrow.Author.Needs.{needs}
 use Rattle.payload.proofs.read.id_of.Statement.{statement}

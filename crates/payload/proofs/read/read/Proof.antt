@@ -4,9 +4,9 @@ use mathlib.Core.Path.{_≡_, sym, _∙_}
 use native.Mathlib.Omega.{arith}
 use Rattle.records.specs.Limits.{sectionsMax}
 use Rattle.payload.specs.Reading.{tableRules, readRules, readingBy, readingOf}
-use Rattle.payload.proofs.HeaderLaws.{headed}
+use Rattle.object.proofs.HeaderLaws.{headed}
 use Rattle.payload.proofs.ReadingLaws.{reads-table}
-use Rattle.payload.proofs.SectionLaws.{count-read}
+use Rattle.object.proofs.SectionLaws.{count-read}
 use borrow.Author.Needs.{needs}
 use Rattle.payload.proofs.read.read.Statement.{statement}
 use Rattle.payload.proofs.read.read.Tie as tie

@@ -6,7 +6,7 @@ use lib.ListN.{length, getD, take}
 use lib.Seq.{length-take-le}
 use Rattle.records.specs.Limits.{placedMax, sectionsMax}
 use Rattle.records.specs.declared.refusal.Verdict.the-variants.{Pass}
-use Rattle.payload.specs.Sections.{noEntry}
+use Rattle.object.specs.Sections.{noEntry}
 use Rattle.words.proofs.Scan.{getD-filled}
 use Rattle.placement.specs.Placement.{endBefore, offsetOf, placementRules, placedBy}
 use Rattle.placement.specs.declared.Placement.{Placement}

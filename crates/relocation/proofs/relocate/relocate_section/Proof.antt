@@ -6,7 +6,7 @@ use native.Mathlib.Nat.{le-trans}
 use native.Mathlib.Omega.{arith}
 use borrow.Author.Needs.{needs}
 use Rattle.words.proofs.Tests.{held, refuted}
-use Rattle.payload.specs.Sections.{sectionIn, noEntry}
+use Rattle.object.specs.Sections.{sectionIn, noEntry}
 use Rattle.relocation.specs.Relocating.{isRelocating, relocateSection}
 use Rattle.relocation.proofs.RelocateLaws.{relocating-kind, contents-short}
 use Rattle.relocation.proofs.relocate.relocate_section.Statement.{statement}

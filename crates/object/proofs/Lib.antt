@@ -1,0 +1,4 @@
+pub mod Arms
+pub mod HeaderLaws
+pub mod KindLaws
+pub mod SectionLaws

@@ -1,0 +1,68 @@
+-- `header::check_header` meets its contract.
+use mathlib.Core.Path.{sym}
+use mathlib.Core.Bool.{and-false}
+use borrow.Author.Needs.{needs}
+use borrow.Author.Tests.{le-leb, lt-leb}
+use Rattle.words.proofs.Tests.{held, refuted}
+use Rattle.object.specs.Header.{sizeOk, headerRules}
+use Rattle.object.proofs.header.check_header.Statement.{statement}
+use Rattle.object.proofs.header.check_header.Tie as tie
+
+returns : tie.Need-returns
+unfolding headerRules sizeOk
+returns c = simp (lt-leb _ _ (c .if1 .taken))
+
+returns-2 : tie.Need-returns-2
+unfolding headerRules sizeOk
+returns-2 c = simp (lt-leb _ _ (c .if2 .taken), and-false)
+
+read-file-header-requires : tie.Need-read-file-header-requires
+read-file-header-requires c κs = search needs
+
+fields-ok-requires : tie.Need-fields-ok-requires
+fields-ok-requires c κs = search needs
+
+returns-3 : tie.Need-returns-3
+unfolding headerRules
+returns-3 c = simp (sym (c .before .before .read-file-header .ensures .0), refuted (c .before .fields-ok .ensures) (c .if3 .taken), and-false)
+
+mul-lies-within : tie.Need-mul-lies-within
+mul-lies-within c = search needs
+
+lies-within-requires : tie.Need-lies-within-requires
+lies-within-requires c κs = search needs
+
+returns-4 : tie.Need-returns-4
+unfolding headerRules
+returns-4 c =
+    simp (
+      sym (c .before .before .before .before .before .read-file-header .ensures .0),
+      refuted (c .before .lies-within .ensures) (c .if4 .taken),
+      and-false,
+    )
+
+returns-5 : tie.Need-returns-5
+unfolding headerRules sizeOk
+returns-5 c =
+    let cf = c .before .before .before .before in
+    simp (
+      le-leb _ _ (cf .before .before .before .if1 .left),
+      le-leb _ _ (cf .before .before .if2 .left),
+      sym (cf .before .read-file-header .ensures .0),
+      held (cf .fields-ok .ensures) (c .before .before .before .if3 .left),
+      held (c .before .lies-within .ensures) (c .if4 .left),
+    )
+
+pub check-header-spec : {M : Type 1} → statement M
+check-header-spec =
+    tie.close
+    (tie.spec
+    returns
+    returns-2
+    read-file-header-requires
+    fields-ok-requires
+    returns-3
+    mul-lies-within
+    lies-within-requires
+    returns-4
+    returns-5)

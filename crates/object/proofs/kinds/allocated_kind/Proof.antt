@@ -1,0 +1,49 @@
+-- `allocated_kind` meets its contract.
+use mathlib.Core.Bool.{and-false}
+use borrow.Author.Needs.{needs}
+use borrow.Author.Tests.{eq-eqb, ne-eqb}
+use Rattle.words.proofs.Tests.{held, refuted}
+use Rattle.object.proofs.kinds.allocated_kind.Statement.{statement}
+use Rattle.object.proofs.kinds.allocated_kind.Tie as tie
+
+is-placed-name-requires : tie.Need-is-placed-name-requires
+is-placed-name-requires c κs = search needs
+
+returns : tie.Need-returns
+returns c = simp (refuted (c .before .is-placed-name .ensures) (c .if1 .taken), and-false)
+
+returns-2 : tie.Need-returns-2
+returns-2 c =
+    let placed = c .before .before in
+    simp (held (placed .before .is-placed-name .ensures) (placed .if1 .left), eq-eqb _ _ (c .if2 .taken))
+
+returns-3 : tie.Need-returns-3
+returns-3 c =
+    let placed = c .before .before .before .before in
+    simp (
+      held (placed .before .is-placed-name .ensures) (placed .if1 .left),
+      ne-eqb _ _ (c .before .before .if2 .left),
+      eq-eqb _ _ (c .if3 .taken),
+    )
+
+returns-4 : tie.Need-returns-4
+returns-4 c =
+    let placed = c .before .before .before .before .before .before in
+    simp (
+      held (placed .before .is-placed-name .ensures) (placed .if1 .left),
+      ne-eqb _ _ (c .before .before .before .before .if2 .left),
+      ne-eqb _ _ (c .before .before .if3 .left),
+      eq-eqb _ _ (c .if4 .taken),
+    )
+
+returns-5 : tie.Need-returns-5
+returns-5 c =
+    simp (
+      ne-eqb _ _ (c .before .before .before .before .if2 .left),
+      ne-eqb _ _ (c .before .before .if3 .left),
+      ne-eqb _ _ (c .if4 .left),
+    )
+
+pub allocated-kind-spec : {M : Type 1} → statement M
+allocated-kind-spec =
+    tie.close (tie.spec is-placed-name-requires returns returns-2 returns-3 returns-4 returns-5)

@@ -1,0 +1,79 @@
+-- `sections::check_name_table` meets its contract.
+use mathlib.Core.Path.{sym}
+use mathlib.Core.Bool.{and-false}
+use native.Mathlib.Omega.{arith}
+use borrow.Author.Needs.{needs}
+use borrow.Author.Tests.{lt-ltb, le-ltb, eq-eqb, ne-eqb}
+use Rattle.words.proofs.Tests.{held, refuted}
+use Rattle.object.specs.Sections.{nameTableRules}
+use Rattle.object.proofs.SectionLaws.{count-read, names-read}
+use Rattle.object.proofs.sections.check_name_table.Statement.{statement}
+use Rattle.object.proofs.sections.check_name_table.Tie as tie
+
+read-file-header-requires : tie.Need-read-file-header-requires
+read-file-header-requires c κs = search needs
+
+returns : tie.Need-returns
+unfolding nameTableRules
+returns c =
+    let e = c .before .before .read-file-header .ensures .0 in
+    simp (sym (count-read _ e), sym (names-read _ e), le-ltb _ _ (c .if1 .taken))
+
+header-at-requires : tie.Need-header-at-requires
+header-at-requires c κs =
+    (c .before .before .before .before .pre, omega (arith, count-read _ (c .before .before .read-file-header .ensures .0)))
+
+returns-2 : tie.Need-returns-2
+unfolding nameTableRules
+returns-2 c =
+    let ch = c .before .before in
+    let e = ch .before .before .before .read-file-header .ensures .0 in
+    simp (
+      sym (count-read _ e),
+      sym (names-read _ e),
+      sym (ch .header-at .ensures),
+      ne-eqb _ _ (c .if2 .taken),
+      and-false,
+    )
+
+lies-within-requires : tie.Need-lies-within-requires
+lies-within-requires c κs = search needs
+
+returns-3 : tie.Need-returns-3
+unfolding nameTableRules
+returns-3 c =
+    let ch = c .before .before .before .before in
+    let e = ch .before .before .before .read-file-header .ensures .0 in
+    simp (
+      sym (count-read _ e),
+      sym (names-read _ e),
+      sym (ch .header-at .ensures),
+      refuted (c .before .lies-within .ensures) (c .if3 .taken),
+      and-false,
+    )
+
+returns-4 : tie.Need-returns-4
+unfolding nameTableRules
+returns-4 c =
+    let ch = c .before .before .before .before in
+    let e = ch .before .before .before .read-file-header .ensures .0 in
+    simp (
+      sym (count-read _ e),
+      sym (names-read _ e),
+      sym (ch .header-at .ensures),
+      lt-ltb _ _ (ch .before .if1 .left),
+      eq-eqb _ _ (c .before .before .if2 .left),
+      held (c .before .lies-within .ensures) (c .if3 .left),
+    )
+
+pub check-name-table-spec : {M : Type 1} → statement M
+check-name-table-spec =
+    tie.close
+    (tie.spec
+    read-file-header-requires
+    returns
+    header-at-requires
+    returns-2
+    lies-within-requires
+    returns-3
+    returns-4)
