@@ -24,22 +24,8 @@ use Rattle.object.specs.declared.kinds.Kind.the-variants.{Symbols}
 use Rattle.placement.specs.Placement.{placementRules}
 use Rattle.functions.specs.Functions.{functionRules}
 use Rattle.encode.specs.Encode.{Fitting, editsOf, editsSize, summaryOf, summarySize}
-use Rattle.prepare.specs.Prepare.{
-  Target,
-  target,
-  Outcome,
-  outcome,
-  relocatedOf,
-  recordsIndex,
-  recordCount,
-  patchingOf,
-  buildRules,
-  sizesOk,
-  prepareRules,
-  acceptedOf,
-  outcomeBy,
-  prepareOf,
-}
+use Rattle.acceptance.specs.Stages.{Target, target, relocatedOf, recordsIndex, recordCount, patchingOf, buildRules}
+use Rattle.prepare.specs.Prepare.{Outcome, outcome, sizesOk, prepareRules, acceptedOf, outcomeBy, prepareOf}
 use Rattle.prepare.specs.declared.prepare.Prepared.{Prepared}
 use Rattle.prepare.proofs.EditLaws.{InText, edit-in-text, bytes-short}
 use Rattle.prepare.proofs.PrepareLaws.{records-size}

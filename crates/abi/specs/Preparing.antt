@@ -13,7 +13,8 @@ use Rattle.records.specs.declared.refusal.Verdict.{Verdict}
 use Rattle.records.specs.declared.refusal.Verdict.the-variants.{Pass, Refuse}
 use Rattle.symbols.specs.SymbolList.{valid}
 use Rattle.encode.specs.Encode.{editsOf, editsSize, summaryOf, summarySize}
-use Rattle.prepare.specs.Prepare.{Target, relocatedOf, prepareRules, acceptedOf}
+use Rattle.acceptance.specs.Stages.{Target, relocatedOf}
+use Rattle.prepare.specs.Prepare.{prepareRules, acceptedOf}
 
 -- the text: 1 to 16,777,216 bytes whose last lies at 2^64 - 1 or before; the slot: not at 0, and its last byte likewise
 unfoldable pub rangesOk : Target → Bool

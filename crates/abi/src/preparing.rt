@@ -1,7 +1,7 @@
 // A payload prepared for its slot, into the caller's buffers.
 ghost use mathlib.Core.Path.{_≡_};
 ghost use mathlib.Core.List.{[]};
-ghost use Rattle.prepare.specs.Prepare.{target};
+ghost use Rattle.acceptance.specs.Stages.{target};
 ghost use Rattle.abi.specs.Preparing.{rangesOk, buffersOk, left, callOf};
 use records::payload::Payload;
 use records::refusal::Verdict;

@@ -39,11 +39,14 @@ contentsOf file h = part file (h .«sh_offset») (h .«sh_size»)
 abbrev pub nameSection : List ℕ → ℕ
 nameSection file = fileHeaderOf file .«e_shstrndx»
 
-unfoldable pub nameTableRules : List ℕ → Verdict
-nameTableRules file =
-    must (ltb (nameSection file) (sectionCount file)
+abbrev pub nameTableOk : List ℕ → Bool
+nameTableOk file =
+    ltb (nameSection file) (sectionCount file)
     && hasType 3 (headerAt file (nameSection file))
-    && contentsInside (headerAt file (nameSection file)) (length file)) Invalid Nowhere
+    && contentsInside (headerAt file (nameSection file)) (length file)
+
+unfoldable pub nameTableRules : List ℕ → Verdict
+nameTableRules file = must (nameTableOk file) Invalid Nowhere
 
 unfoldable pub nameTable : List ℕ → List ℕ
 nameTable file = contentsOf file (headerAt file (nameSection file))

@@ -15,7 +15,8 @@ use Rattle.placement.specs.declared.Placement.{Placement}
 use Rattle.relocation.specs.Relocating.{relocated, linkingOf, relocateAll}
 use Rattle.functions.specs.Functions.{Patching, patching, functionRules, functionsBy, functionsOf}
 use Rattle.functions.specs.declared.read.Functions.{Functions}
-use Rattle.prepare.specs.Prepare.{Target, Ready, relocatedOf, recordCount, patchingOf, buildRules, nothingBuilt, allBuilt, builtBy, builtOf}
+use Rattle.acceptance.specs.Stages.{Target, relocatedOf, recordCount, patchingOf, buildRules}
+use Rattle.prepare.specs.Prepare.{Ready, nothingBuilt, allBuilt, builtBy, builtOf}
 use Rattle.prepare.specs.declared.build.Built.{Built}
 use Rattle.prepare.proofs.PrepareLaws.{records-below}
 

@@ -20,7 +20,8 @@ use Rattle.payload.specs.declared.read.Reading.{Reading}
 use Rattle.payload.proofs.ReadingLaws.{verdict-read}
 use Rattle.placement.specs.Placement.{imageBefore, placementRules}
 use Rattle.relocation.proofs.RelocateLaws.{length-relocated}
-use Rattle.prepare.specs.Prepare.{Target, Ready, recordsIndex, Outcome, outcome, relocatedOf, sizesOk, buildRules, prepareRules, refusedBy, acceptedOf, allBuilt, builtBy, builtOf, prepareOf}
+use Rattle.acceptance.specs.Stages.{Target, recordsIndex, relocatedOf, buildRules}
+use Rattle.prepare.specs.Prepare.{Ready, Outcome, outcome, sizesOk, prepareRules, refusedBy, acceptedOf, allBuilt, builtBy, builtOf, prepareOf}
 use Rattle.prepare.specs.declared.build.Built.{Built}
 use Rattle.prepare.proofs.PrepareLaws.{linkable}
 

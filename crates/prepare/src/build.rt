@@ -2,7 +2,8 @@
 ghost use mathlib.Core.Path.{_≡_};
 ghost use Prim.Native.Nat.{_≤_};
 ghost use Rattle.records.specs.Limits.{textMax};
-ghost use Rattle.prepare.specs.Prepare.{target, nothingBuilt, Ready, builtOf};
+ghost use Rattle.acceptance.specs.Stages.{target};
+ghost use Rattle.prepare.specs.Prepare.{nothingBuilt, Ready, builtOf};
 use object::sections::SectionEntry;
 use records::payload::Edit;
 use records::payload::Payload;

@@ -1,6 +1,7 @@
 // A payload prepared in one call.
 ghost use mathlib.Core.Path.{_≡_};
-ghost use Rattle.prepare.specs.Prepare.{target, refusedBy, outcome, prepareOf};
+ghost use Rattle.acceptance.specs.Stages.{target};
+ghost use Rattle.prepare.specs.Prepare.{refusedBy, outcome, prepareOf, Faithful};
 use super::build::Built;
 use super::build::{self};
 use payload::read::Reading;
@@ -48,7 +49,7 @@ pub fn prepare(
     base: u64,
     image: &mut [u8],
 ) -> Prepared
-    ensures { λ r. ⌜ outcome r (now (image .exit)) ≡ prepareOf (target text size base (now (list .entry))) (now (file .entry)) (now (image .entry)) ⌝ }
+    ensures { λ r. ⌜ (outcome r (now (image .exit)) ≡ prepareOf (target text size base (now (list .entry))) (now (file .entry)) (now (image .entry))) × Faithful (target text size base (now (list .entry))) (now (file .entry)) (now (image .entry)) (outcome r (now (image .exit))) ⌝ }
 {
     let bad = Refusal {
         reason: Reason::Invalid,

@@ -1,6 +1,7 @@
 -- `build::build` meets its contract: each stage answers as its definition says, and the first that refuses ends it.
-use Prim.Native.Nat.{_≤_, _<_}
+use Prim.Native.Nat.{ℕ, _≤_, _<_}
 use mathlib.Core.Path.{_≡_, sym, ap, ap₂, subst⁻¹, _∙_}
+use mathlib.Core.List.{List}
 use native.Mathlib.Omega.{arith}
 use lib.ListN.{length, getD, take}
 use lib.Seq.{length-take-le}
@@ -14,15 +15,21 @@ use Rattle.placement.proofs.PlacementLaws.{end-inside}
 use Rattle.relocation.specs.Relocating.{Relocated, relocated, Linkable}
 use Rattle.relocation.proofs.RelocateLaws.{length-relocated}
 use Rattle.functions.specs.Functions.{functionsOf}
-use Rattle.prepare.specs.Prepare.{target, relocatedOf, recordCount, patchingOf}
+use Rattle.acceptance.specs.Stages.{Target, target, relocatedOf, recordCount, patchingOf}
 use Rattle.prepare.proofs.BuildLaws.{not-placed, placed, linked, patching-is, count-is, not-linked, not-patched, all-built, edits-found, built-is}
 use Rattle.prepare.proofs.PrepareLaws.{few, linkable, records-below, records-size, records-inside}
 use borrow.Author.Needs.{needs}
 use Rattle.prepare.proofs.build.build.Statement.{statement}
 use Rattle.prepare.proofs.build.build.Tie as tie
 
+abbrev aim : tie.Start → Target
+aim s = target (s .args .text) (s .args .size) (s .args .base) (s .args .list .now)
+
+abbrev file-of : tie.Start → List ℕ
+file-of s = s .args .file .now
+
 place-requires : tie.Need-place-requires
-place-requires c κs = few (c .before .before .args .file .now) (c .before .before .args .t6) (c .before .before .args .count) (c .before .before .args .symbols) (c .before .before .args .records) (c .before .before .pre .0)
+place-requires c κs = few _ _ _ _ _ (c .before .before .pre .0)
 
 enum-known-placed-verdict : tie.Need-enum-known-placed-verdict
 enum-known-placed-verdict c = search needs
@@ -32,10 +39,29 @@ nothing-built-requires c κs = search needs
 
 returns : tie.Need-returns
 returns c =
-    c .nothing-built .ensures ∙ sym (not-placed (c .before .before .before .before .before .before .before .args .file .now) (c .before .before .before .before .before .before .before .args .t6) (c .before .before .before .before .before .before .before .args .count) (c .before .before .before .before .before .before .before .args .symbols) (c .before .before .before .before .before .before .before .args .records) (c .before .before .before .before .before .before .before .pre .0) (target (c .before .before .before .before .before .before .before .args .text) (c .before .before .before .before .before .before .before .args .size) (c .before .before .before .before .before .before .before .args .base) (c .before .before .before .before .before .before .before .args .list .now)) (c .before .before .before .before .place .result) (c .before .before .before .before .place .ensures) _ (c .before .before .placed-verdict .given .1))
+    let placement = c .before .before .before .before in
+    let s = placement .before .before .before in
+    c .nothing-built .ensures
+    ∙ sym (not-placed _ _ _ _ _ (s .pre .0) (aim s) (placement .place .result) (placement .place .ensures) _ (c .before .before .placed-verdict .given .1))
 
 enum-told : tie.Need-enum-told
 enum-told c = search needs
+
+-- where placement has passed
+module _ (c : tie.After-enum-told) where
+  abbrev begun : tie.Start
+  begun = c .before .before .before .before .before
+
+  abbrev placement : Placement
+  placement = c .before .before .place .result
+
+  placing : (placementRules (begun .args .t6) (begun .args .count) ≡ Pass) × (placement ≡ placedBy (file-of begun) (begun .args .t6) (begun .args .count) Pass)
+  placing = placed _ _ _ _ _ (begun .pre .0) (aim begun) placement (c .before .before .place .ensures) (c .enum-told .given .1)
+
+  ready-to-link : Linkable (length (placement .image)) (file-of begun) (begun .args .t6) (begun .args .count) (begun .args .symbols) (placement .offsets) (placement .limits)
+  ready-to-link =
+      subst⁻¹ (λ (x : Placement). Linkable (length (x .image)) (file-of begun) (begun .args .t6) (begun .args .count) (begun .args .symbols) (x .offsets) (x .limits))
+      (placing .1) (linkable _ _ _ _ _ (begun .pre .0) (placing .0))
 
 slice-aggregate-relocate : tie.Need-slice-aggregate-relocate
 slice-aggregate-relocate c = search needs
@@ -47,10 +73,7 @@ slice-aggregate-relocate-3 : tie.Need-slice-aggregate-relocate-3
 slice-aggregate-relocate-3 c = search needs
 
 relocate-requires : tie.Need-relocate-requires
-relocate-requires c κs =
-    let pl = placed (c .before .before .before .before .before .before .before .before .before .before .before .args .file .now) (c .before .before .before .before .before .before .before .before .before .before .before .args .t6) (c .before .before .before .before .before .before .before .before .before .before .before .args .count) (c .before .before .before .before .before .before .before .before .before .before .before .args .symbols) (c .before .before .before .before .before .before .before .before .before .before .before .args .records) (c .before .before .before .before .before .before .before .before .before .before .before .pre .0) (target (c .before .before .before .before .before .before .before .before .before .before .before .args .text) (c .before .before .before .before .before .before .before .before .before .before .before .args .size) (c .before .before .before .before .before .before .before .before .before .before .before .args .base) (c .before .before .before .before .before .before .before .before .before .before .before .args .list .now)) (c .before .before .before .before .before .before .before .before .place .result) (c .before .before .before .before .before .before .before .before .place .ensures) (c .before .before .before .before .before .before .enum-told .given .1) in
-    subst⁻¹ (λ (x : Placement). Linkable (length (x .image)) (c .before .before .before .before .before .before .before .before .before .before .before .args .file .now) (c .before .before .before .before .before .before .before .before .before .before .before .args .t6) (c .before .before .before .before .before .before .before .before .before .before .before .args .count) (c .before .before .before .before .before .before .before .before .before .before .before .args .symbols) (x .offsets) (x .limits)) (pl .1)
-    (linkable (c .before .before .before .before .before .before .before .before .before .before .before .args .file .now) (c .before .before .before .before .before .before .before .before .before .before .before .args .t6) (c .before .before .before .before .before .before .before .before .before .before .before .args .count) (c .before .before .before .before .before .before .before .before .before .before .before .args .symbols) (c .before .before .before .before .before .before .before .before .before .before .before .args .records) (c .before .before .before .before .before .before .before .before .before .before .before .pre .0) (pl .0))
+relocate-requires c κs = ready-to-link (c .before .before .before .before .before .before)
 
 enum-known-relocated : tie.Need-enum-known-relocated
 enum-known-relocated c = search needs
@@ -58,56 +81,63 @@ enum-known-relocated c = search needs
 nothing-built-requires-2 : tie.Need-nothing-built-requires-2
 nothing-built-requires-2 c κs = search needs
 
+-- what relocation answered
+linking : (c : tie.After-relocate) →
+    let e = c .before .before .before .before .before .before .before in
+    relocated (c .relocate .result) (c .relocate .last .0) ≡ relocatedOf (aim (begun e)) (file-of (begun e))
+linking c =
+    let e = c .before .before .before .before .before .before .before in
+    linked _ _ _ _ _ (begun e .pre .0) (aim (begun e)) (placement e) (placing e .1) _ _ (c .relocate .ensures)
+
 returns-2 : tie.Need-returns-2
 returns-2 c =
-    let pl = placed (c .before .before .before .before .before .before .before .before .before .before .before .before .before .before .before .before .before .args .file .now) (c .before .before .before .before .before .before .before .before .before .before .before .before .before .before .before .before .before .args .t6) (c .before .before .before .before .before .before .before .before .before .before .before .before .before .before .before .before .before .args .count) (c .before .before .before .before .before .before .before .before .before .before .before .before .before .before .before .before .before .args .symbols) (c .before .before .before .before .before .before .before .before .before .before .before .before .before .before .before .before .before .args .records) (c .before .before .before .before .before .before .before .before .before .before .before .before .before .before .before .before .before .pre .0) (target (c .before .before .before .before .before .before .before .before .before .before .before .before .before .before .before .before .before .args .text) (c .before .before .before .before .before .before .before .before .before .before .before .before .before .before .before .before .before .args .size) (c .before .before .before .before .before .before .before .before .before .before .before .before .before .before .before .before .before .args .base) (c .before .before .before .before .before .before .before .before .before .before .before .before .before .before .before .before .before .args .list .now)) (c .before .before .before .before .before .before .before .before .before .before .before .before .before .before .place .result) (c .before .before .before .before .before .before .before .before .before .before .before .before .before .before .place .ensures) (c .before .before .before .before .before .before .before .before .before .before .before .before .enum-told .given .1) in
-    let link = linked (c .before .before .before .before .before .before .before .before .before .before .before .before .before .before .before .before .before .args .file .now) (c .before .before .before .before .before .before .before .before .before .before .before .before .before .before .before .before .before .args .t6) (c .before .before .before .before .before .before .before .before .before .before .before .before .before .before .before .before .before .args .count) (c .before .before .before .before .before .before .before .before .before .before .before .before .before .before .before .before .before .args .symbols) (c .before .before .before .before .before .before .before .before .before .before .before .before .before .before .before .before .before .args .records) (c .before .before .before .before .before .before .before .before .before .before .before .before .before .before .before .before .before .pre .0) (target (c .before .before .before .before .before .before .before .before .before .before .before .before .before .before .before .before .before .args .text) (c .before .before .before .before .before .before .before .before .before .before .before .before .before .before .before .before .before .args .size) (c .before .before .before .before .before .before .before .before .before .before .before .before .before .before .before .before .before .args .base) (c .before .before .before .before .before .before .before .before .before .before .before .before .before .before .before .before .before .args .list .now)) (c .before .before .before .before .before .before .before .before .before .before .before .before .before .before .place .result) (pl .1) _ _ (c .before .before .before .before .before .relocate .ensures) in
+    let relocating = c .before .before .before .before .before in
+    let e = relocating .before .before .before .before .before .before .before in
     c .nothing-built2 .ensures
-    ∙ sym (not-linked (c .before .before .before .before .before .before .before .before .before .before .before .before .before .before .before .before .before .args .file .now) (c .before .before .before .before .before .before .before .before .before .before .before .before .before .before .before .before .before .args .t6) (c .before .before .before .before .before .before .before .before .before .before .before .before .before .before .before .before .before .args .count) (c .before .before .before .before .before .before .before .before .before .before .before .before .before .before .before .before .before .args .symbols) (c .before .before .before .before .before .before .before .before .before .before .before .before .before .before .before .before .before .args .records) (c .before .before .before .before .before .before .before .before .before .before .before .before .before .before .before .before .before .pre .0) (target (c .before .before .before .before .before .before .before .before .before .before .before .before .before .before .before .before .before .args .text) (c .before .before .before .before .before .before .before .before .before .before .before .before .before .before .before .before .before .args .size) (c .before .before .before .before .before .before .before .before .before .before .before .before .before .before .before .before .before .args .base) (c .before .before .before .before .before .before .before .before .before .before .before .before .before .before .before .before .before .args .list .now)) _ (pl .0) (ap (λ (x : Relocated). x .verdict) (sym link) ∙ c .before .before .relocated .given .1))
+    ∙ sym (not-linked _ _ _ _ _ (begun e .pre .0) (aim (begun e)) _ (placing e .0) (ap (λ (x : Relocated). x .verdict) (sym (linking relocating)) ∙ c .before .before .relocated .given .1))
 
 enum-told-2 : tie.Need-enum-told-2
 enum-told-2 c = search needs
 
--- where placement and relocation have passed
+-- where relocation has passed
 module _ (c : tie.After-enum-told2) where
-  placing :
-      (placementRules (c .before .before .before .before .before .before .before .before .before .before .before .before .before .before .before .args .t6) (c .before .before .before .before .before .before .before .before .before .before .before .before .before .before .before .args .count) ≡ Pass)
-      × (c .before .before .before .before .before .before .before .before .before .before .before .before .place .result ≡ placedBy (c .before .before .before .before .before .before .before .before .before .before .before .before .before .before .before .args .file .now) (c .before .before .before .before .before .before .before .before .before .before .before .before .before .before .before .args .t6) (c .before .before .before .before .before .before .before .before .before .before .before .before .before .before .before .args .count) Pass)
-  placing = placed (c .before .before .before .before .before .before .before .before .before .before .before .before .before .before .before .args .file .now) (c .before .before .before .before .before .before .before .before .before .before .before .before .before .before .before .args .t6) (c .before .before .before .before .before .before .before .before .before .before .before .before .before .before .before .args .count) (c .before .before .before .before .before .before .before .before .before .before .before .before .before .before .before .args .symbols) (c .before .before .before .before .before .before .before .before .before .before .before .before .before .before .before .args .records) (c .before .before .before .before .before .before .before .before .before .before .before .before .before .before .before .pre .0) (target (c .before .before .before .before .before .before .before .before .before .before .before .before .before .before .before .args .text) (c .before .before .before .before .before .before .before .before .before .before .before .before .before .before .before .args .size) (c .before .before .before .before .before .before .before .before .before .before .before .before .before .before .before .args .base) (c .before .before .before .before .before .before .before .before .before .before .before .before .before .before .before .args .list .now)) (c .before .before .before .before .before .before .before .before .before .before .before .before .place .result) (c .before .before .before .before .before .before .before .before .before .before .before .before .place .ensures) (c .before .before .before .before .before .before .before .before .before .before .enum-told .given .1)
+  abbrev earlier : tie.After-enum-told
+  earlier = c .before .before .before .before .before .before .before .before .before .before
 
-  linking : relocated (c .before .before .before .relocate .result) (c .before .before .before .relocate .last .0) ≡ relocatedOf (target (c .before .before .before .before .before .before .before .before .before .before .before .before .before .before .before .args .text) (c .before .before .before .before .before .before .before .before .before .before .before .before .before .before .before .args .size) (c .before .before .before .before .before .before .before .before .before .before .before .before .before .before .before .args .base) (c .before .before .before .before .before .before .before .before .before .before .before .before .before .before .before .args .list .now)) (c .before .before .before .before .before .before .before .before .before .before .before .before .before .before .before .args .file .now)
-  linking = linked (c .before .before .before .before .before .before .before .before .before .before .before .before .before .before .before .args .file .now) (c .before .before .before .before .before .before .before .before .before .before .before .before .before .before .before .args .t6) (c .before .before .before .before .before .before .before .before .before .before .before .before .before .before .before .args .count) (c .before .before .before .before .before .before .before .before .before .before .before .before .before .before .before .args .symbols) (c .before .before .before .before .before .before .before .before .before .before .before .before .before .before .before .args .records) (c .before .before .before .before .before .before .before .before .before .before .before .before .before .before .before .pre .0) (target (c .before .before .before .before .before .before .before .before .before .before .before .before .before .before .before .args .text) (c .before .before .before .before .before .before .before .before .before .before .before .before .before .before .before .args .size) (c .before .before .before .before .before .before .before .before .before .before .before .before .before .before .before .args .base) (c .before .before .before .before .before .before .before .before .before .before .before .before .before .before .before .args .list .now)) (c .before .before .before .before .before .before .before .before .before .before .before .before .place .result) (placing .1) _ _ (c .before .before .before .relocate .ensures)
+  abbrev start : tie.Start
+  start = begun earlier
 
-  passed : relocatedOf (target (c .before .before .before .before .before .before .before .before .before .before .before .before .before .before .before .args .text) (c .before .before .before .before .before .before .before .before .before .before .before .before .before .before .before .args .size) (c .before .before .before .before .before .before .before .before .before .before .before .before .before .before .before .args .base) (c .before .before .before .before .before .before .before .before .before .before .before .before .before .before .before .args .list .now)) (c .before .before .before .before .before .before .before .before .before .before .before .before .before .before .before .args .file .now) .verdict ≡ Pass
-  passed = ap (λ (x : Relocated). x .verdict) (sym linking) ∙ c .enum-told2 .given .1
+  abbrev image : List ℕ
+  image = c .before .before .before .relocate .last .0
 
-  index-below : c .before .before .before .before .before .before .before .before .before .before .before .before .before .before .before .args .records < 64
-  index-below = omega (arith, few (c .before .before .before .before .before .before .before .before .before .before .before .before .before .before .before .args .file .now) (c .before .before .before .before .before .before .before .before .before .before .before .before .before .before .before .args .t6) (c .before .before .before .before .before .before .before .before .before .before .before .before .before .before .before .args .count) (c .before .before .before .before .before .before .before .before .before .before .before .before .before .before .before .args .symbols) (c .before .before .before .before .before .before .before .before .before .before .before .before .before .before .before .args .records) (c .before .before .before .before .before .before .before .before .before .before .before .before .before .before .before .pre .0), records-below (c .before .before .before .before .before .before .before .before .before .before .before .before .before .before .before .args .file .now) (c .before .before .before .before .before .before .before .before .before .before .before .before .before .before .before .args .t6) (c .before .before .before .before .before .before .before .before .before .before .before .before .before .before .before .args .count) (c .before .before .before .before .before .before .before .before .before .before .before .before .before .before .before .args .symbols) (c .before .before .before .before .before .before .before .before .before .before .before .before .before .before .before .args .records) (c .before .before .before .before .before .before .before .before .before .before .before .before .before .before .before .pre .0))
+  passed : relocatedOf (aim start) (file-of start) .verdict ≡ Pass
+  passed = ap (λ (x : Relocated). x .verdict) (sym (linking (c .before .before .before))) ∙ c .enum-told2 .given .1
 
-  placed-below : c .before .before .before .before .before .before .before .before .before .before .before .before .place .result .placed ≤ placedMax
-  placed-below = subst⁻¹ (λ (x : Placement). x .placed ≤ placedMax) (placing .1) (end-inside (c .before .before .before .before .before .before .before .before .before .before .before .before .before .before .before .args .t6) (c .before .before .before .before .before .before .before .before .before .before .before .before .before .before .before .args .count) (placing .0))
+  image-is : image ≡ relocatedOf (aim start) (file-of start) .image
+  image-is = ap (λ (x : Relocated). x .image) (linking (c .before .before .before))
 
-  image-is : c .before .before .before .relocate .last .0 ≡ relocatedOf (target (c .before .before .before .before .before .before .before .before .before .before .before .before .before .before .before .args .text) (c .before .before .before .before .before .before .before .before .before .before .before .before .before .before .before .args .size) (c .before .before .before .before .before .before .before .before .before .before .before .before .before .before .before .args .base) (c .before .before .before .before .before .before .before .before .before .before .before .before .before .before .before .args .list .now)) (c .before .before .before .before .before .before .before .before .before .before .before .before .before .before .before .args .file .now) .image
-  image-is = ap (λ (x : Relocated). x .image) linking
+  index-below : start .args .records < 64
+  index-below = omega (arith, few _ _ _ _ _ (start .pre .0), records-below _ _ _ _ _ (start .pre .0))
 
-  image-whole : length (c .before .before .before .relocate .last .0) ≡ placedMax
+  placed-below : placement earlier .placed ≤ placedMax
+  placed-below = subst⁻¹ (λ (x : Placement). x .placed ≤ placedMax) (placing earlier .1) (end-inside (start .args .t6) (start .args .count) (placing earlier .0))
+
+  image-whole : length image ≡ placedMax
   image-whole =
-      let l = subst⁻¹ (λ (x : Placement). Linkable (length (x .image)) (c .before .before .before .before .before .before .before .before .before .before .before .before .before .before .before .args .file .now) (c .before .before .before .before .before .before .before .before .before .before .before .before .before .before .before .args .t6) (c .before .before .before .before .before .before .before .before .before .before .before .before .before .before .before .args .count) (c .before .before .before .before .before .before .before .before .before .before .before .before .before .before .before .args .symbols) (x .offsets) (x .limits)) (placing .1)
-      (linkable (c .before .before .before .before .before .before .before .before .before .before .before .before .before .before .before .args .file .now) (c .before .before .before .before .before .before .before .before .before .before .before .before .before .before .before .args .t6) (c .before .before .before .before .before .before .before .before .before .before .before .before .before .before .before .args .count) (c .before .before .before .before .before .before .before .before .before .before .before .before .before .before .before .args .symbols) (c .before .before .before .before .before .before .before .before .before .before .before .before .before .before .before .args .records) (c .before .before .before .before .before .before .before .before .before .before .before .before .before .before .before .pre .0) (placing .0)) in
       ap (λ (x : Relocated). length (x .image)) (c .before .before .before .relocate .ensures)
-      ∙ length-relocated (c .before .before .before .before .before .before .before .before .before .before .before .before .before .before .before .args .base) (c .before .before .before .before .before .before .before .before .before .before .before .before .before .before .before .args .file .now) (c .before .before .before .before .before .before .before .before .before .before .before .before .before .before .before .args .t6) (c .before .before .before .before .before .before .before .before .before .before .before .before .before .before .before .args .count) (c .before .before .before .before .before .before .before .before .before .before .before .before .before .before .before .args .symbols) _ _ (c .before .before .before .before .before .before .before .before .before .before .before .before .before .before .before .args .list .now) (c .before .before .before .before .before .before .before .before .before .before .before .before .place .result .image) l
-      ∙ l .whole
+      ∙ length-relocated (start .args .base) (file-of start) (start .args .t6) (start .args .count) (start .args .symbols) _ _ (start .args .list .now) (placement earlier .image) (ready-to-link earlier)
+      ∙ ready-to-link earlier .whole
 
-  start-is : getD (c .before .before .before .before .before .before .before .before .before .before .before .before .place .result .offsets) (c .before .before .before .before .before .before .before .before .before .before .before .before .before .before .before .args .records) 0 ≡ offsetOf (c .before .before .before .before .before .before .before .before .before .before .before .before .before .before .before .args .t6) (c .before .before .before .before .before .before .before .before .before .before .before .before .before .before .before .args .records)
+  start-is : getD (placement earlier .offsets) (start .args .records) 0 ≡ offsetOf (start .args .t6) (start .args .records)
   start-is =
-      ap (λ (x : Placement). getD (x .offsets) (c .before .before .before .before .before .before .before .before .before .before .before .before .before .before .before .args .records) 0) (placing .1)
-      ∙ getD-filled (offsetOf (c .before .before .before .before .before .before .before .before .before .before .before .before .before .before .before .args .t6)) 0 sectionsMax (c .before .before .before .before .before .before .before .before .before .before .before .before .before .before .before .args .count) (c .before .before .before .before .before .before .before .before .before .before .before .before .before .before .before .args .records) 0 (records-below (c .before .before .before .before .before .before .before .before .before .before .before .before .before .before .before .args .file .now) (c .before .before .before .before .before .before .before .before .before .before .before .before .before .before .before .args .t6) (c .before .before .before .before .before .before .before .before .before .before .before .before .before .before .before .args .count) (c .before .before .before .before .before .before .before .before .before .before .before .before .before .before .before .args .symbols) (c .before .before .before .before .before .before .before .before .before .before .before .before .before .before .before .args .records) (c .before .before .before .before .before .before .before .before .before .before .before .before .before .before .before .pre .0))
+      ap (λ (x : Placement). getD (x .offsets) (start .args .records) 0) (placing earlier .1)
+      ∙ getD-filled (offsetOf (start .args .t6)) 0 sectionsMax (start .args .count) (start .args .records) 0 (records-below _ _ _ _ _ (start .pre .0))
 
-  placed-is : c .before .before .before .before .before .before .before .before .before .before .before .before .place .result .placed ≡ endBefore (c .before .before .before .before .before .before .before .before .before .before .before .before .before .before .before .args .t6) (c .before .before .before .before .before .before .before .before .before .before .before .before .before .before .before .args .count)
-  placed-is = ap (λ (x : Placement). x .placed) (placing .1)
+  placed-is : placement earlier .placed ≡ endBefore (start .args .t6) (start .args .count)
+  placed-is = ap (λ (x : Placement). x .placed) (placing earlier .1)
 
-  part-length : length (take (c .before .before .before .before .before .before .before .before .before .before .before .before .place .result .placed) (c .before .before .before .relocate .last .0)) ≡ c .before .before .before .before .before .before .before .before .before .before .before .before .place .result .placed
-  part-length = length-take-le _ (c .before .before .before .relocate .last .0) (omega (arith, image-whole, placed-below))
+  part-length : length (take (placement earlier .placed) image) ≡ placement earlier .placed
+  part-length = length-take-le _ image (omega (arith, image-whole, placed-below))
 
 mul-entry : tie.Need-mul-entry
 mul-entry c = omega (arith, index-below c)
@@ -130,10 +160,12 @@ slice-aggregate-read-functions c = sym (part-length (c .before .before .before))
 read-functions-requires : tie.Need-read-functions-requires
 unfolding noEntry
 read-functions-requires c κs =
-    let size = records-size (c .before .before .before .before .before .before .before .before .before .before .before .before .before .before .before .before .before .before .before .args .file .now) (c .before .before .before .before .before .before .before .before .before .before .before .before .before .before .before .before .before .before .before .args .t6) (c .before .before .before .before .before .before .before .before .before .before .before .before .before .before .before .before .before .before .before .args .count) (c .before .before .before .before .before .before .before .before .before .before .before .before .before .before .before .before .before .before .before .args .symbols) (c .before .before .before .before .before .before .before .before .before .before .before .before .before .before .before .before .before .before .before .args .records) (c .before .before .before .before .before .before .before .before .before .before .before .before .before .before .before .before .before .before .before .pre .0) in (
-      omega (arith, part-length (c .before .before .before .before), start-is (c .before .before .before .before), placed-is (c .before .before .before .before), records-inside (c .before .before .before .before .before .before .before .before .before .before .before .before .before .before .before .before .before .before .before .args .file .now) (c .before .before .before .before .before .before .before .before .before .before .before .before .before .before .before .before .before .before .before .args .t6) (c .before .before .before .before .before .before .before .before .before .before .before .before .before .before .before .before .before .before .before .args .count) (c .before .before .before .before .before .before .before .before .before .before .before .before .before .before .before .before .before .before .before .args .symbols) (c .before .before .before .before .before .before .before .before .before .before .before .before .before .before .before .before .before .before .before .args .records) (c .before .before .before .before .before .before .before .before .before .before .before .before .before .before .before .before .before .before .before .pre .0), size .0),
+    let relocated-all = c .before .before .before .before in
+    let ready = start relocated-all .pre .0 in
+    let size = records-size _ _ _ _ _ ready in (
+      omega (arith, part-length relocated-all, start-is relocated-all, placed-is relocated-all, records-inside _ _ _ _ _ ready, size .0),
       omega (arith, size .1),
-      c .before .before .before .before .before .before .before .before .before .before .before .before .before .before .before .before .before .before .before .pre .1,
+      start relocated-all .pre .1,
     )
 
 enum-known-found-verdict : tie.Need-enum-known-found-verdict
@@ -144,31 +176,42 @@ nothing-built-requires-3 c κs = search needs
 
 -- what the records answered
 found-is :
-    (c : tie.After-read-functions) → c .read-functions .result ≡ functionsOf (patchingOf (target (c .before .before .before .before .before .before .before .before .before .before .before .before .before .before .before .before .before .before .before .before .args .text) (c .before .before .before .before .before .before .before .before .before .before .before .before .before .before .before .before .before .before .before .before .args .size) (c .before .before .before .before .before .before .before .before .before .before .before .before .before .before .before .before .before .before .before .before .args .base) (c .before .before .before .before .before .before .before .before .before .before .before .before .before .before .before .before .before .before .before .before .args .list .now)) (c .before .before .before .before .before .before .before .before .before .before .before .before .before .before .before .before .before .before .before .before .args .file .now)) (recordCount (c .before .before .before .before .before .before .before .before .before .before .before .before .before .before .before .before .before .before .before .before .args .file .now))
+    (c : tie.After-read-functions) →
+    let s = start (c .before .before .before .before .before) in
+    c .read-functions .result ≡ functionsOf (patchingOf (aim s) (file-of s)) (recordCount (file-of s))
 unfolding noEntry
 found-is c =
+    let relocated-all = c .before .before .before .before .before in
+    let s = start relocated-all in
+    let e = earlier relocated-all in
     c .read-functions .ensures
     ∙ ap₂ functionsOf
-    (patching-is (c .before .before .before .before .before .before .before .before .before .before .before .before .before .before .before .before .before .before .before .before .args .file .now) (c .before .before .before .before .before .before .before .before .before .before .before .before .before .before .before .before .before .before .before .before .args .t6) (c .before .before .before .before .before .before .before .before .before .before .before .before .before .before .before .before .before .before .before .before .args .count) (c .before .before .before .before .before .before .before .before .before .before .before .before .before .before .before .before .before .before .before .before .args .symbols) (c .before .before .before .before .before .before .before .before .before .before .before .before .before .before .before .before .before .before .before .before .args .records) (c .before .before .before .before .before .before .before .before .before .before .before .before .before .before .before .before .before .before .before .before .pre .0) (target (c .before .before .before .before .before .before .before .before .before .before .before .before .before .before .before .before .before .before .before .before .args .text) (c .before .before .before .before .before .before .before .before .before .before .before .before .before .before .before .before .before .before .before .before .args .size) (c .before .before .before .before .before .before .before .before .before .before .before .before .before .before .before .before .before .before .before .before .args .base) (c .before .before .before .before .before .before .before .before .before .before .before .before .before .before .before .before .before .before .before .before .args .list .now)) (c .before .before .before .before .before .before .before .before .before .before .before .before .before .before .before .before .before .place .result) (placing (c .before .before .before .before .before) .1) _ (image-is (c .before .before .before .before .before)))
-    (count-is (c .before .before .before .before .before .before .before .before .before .before .before .before .before .before .before .before .before .before .before .before .args .file .now) (c .before .before .before .before .before .before .before .before .before .before .before .before .before .before .before .before .before .before .before .before .args .t6) (c .before .before .before .before .before .before .before .before .before .before .before .before .before .before .before .before .before .before .before .before .args .count) (c .before .before .before .before .before .before .before .before .before .before .before .before .before .before .before .before .before .before .before .before .args .symbols) (c .before .before .before .before .before .before .before .before .before .before .before .before .before .before .before .before .before .before .before .before .args .records) (c .before .before .before .before .before .before .before .before .before .before .before .before .before .before .before .before .before .before .before .before .pre .0) (target (c .before .before .before .before .before .before .before .before .before .before .before .before .before .before .before .before .before .before .before .before .args .text) (c .before .before .before .before .before .before .before .before .before .before .before .before .before .before .before .before .before .before .before .before .args .size) (c .before .before .before .before .before .before .before .before .before .before .before .before .before .before .before .before .before .before .before .before .args .base) (c .before .before .before .before .before .before .before .before .before .before .before .before .before .before .before .before .before .before .before .before .args .list .now)))
+    (patching-is _ _ _ _ _ (s .pre .0) (aim s) (placement e) (placing e .1) _ (image-is relocated-all))
+    (count-is _ _ _ _ _ (s .pre .0) (aim s))
 
 returns-3 : tie.Need-returns-3
 returns-3 c =
+    let records = c .before .before .before .before in
+    let relocated-all = records .before .before .before .before .before in
+    let s = start relocated-all in
     c .nothing-built3 .ensures
-    ∙ sym (not-patched (c .before .before .before .before .before .before .before .before .before .before .before .before .before .before .before .before .before .before .before .before .before .before .before .before .args .file .now) (c .before .before .before .before .before .before .before .before .before .before .before .before .before .before .before .before .before .before .before .before .before .before .before .before .args .t6) (c .before .before .before .before .before .before .before .before .before .before .before .before .before .before .before .before .before .before .before .before .before .before .before .before .args .count) (c .before .before .before .before .before .before .before .before .before .before .before .before .before .before .before .before .before .before .before .before .before .before .before .before .args .symbols) (c .before .before .before .before .before .before .before .before .before .before .before .before .before .before .before .before .before .before .before .before .before .before .before .before .args .records) (c .before .before .before .before .before .before .before .before .before .before .before .before .before .before .before .before .before .before .before .before .before .before .before .before .pre .0) (target (c .before .before .before .before .before .before .before .before .before .before .before .before .before .before .before .before .before .before .before .before .before .before .before .before .args .text) (c .before .before .before .before .before .before .before .before .before .before .before .before .before .before .before .before .before .before .before .before .before .before .before .before .args .size) (c .before .before .before .before .before .before .before .before .before .before .before .before .before .before .before .before .before .before .before .before .before .before .before .before .args .base) (c .before .before .before .before .before .before .before .before .before .before .before .before .before .before .before .before .before .before .before .before .before .before .before .before .args .list .now)) (placing (c .before .before .before .before .before .before .before .before .before) .0) (passed (c .before .before .before .before .before .before .before .before .before)) (c .before .before .before .before .read-functions .result) (found-is (c .before .before .before .before)) _ (c .before .before .found-verdict .given .1))
+    ∙ sym (not-patched _ _ _ _ _ (s .pre .0) (aim s) (placing (earlier relocated-all) .0) (passed relocated-all) (records .read-functions .result) (found-is records) _ (c .before .before .found-verdict .given .1))
 
 enum-told-3 : tie.Need-enum-told-3
 enum-told-3 c = search needs
 
 returns-4 : tie.Need-returns-4
 returns-4 c =
+    let records = c .before .before .before in
+    let relocated-all = records .before .before .before .before .before in
+    let s = start relocated-all in
+    let e = earlier relocated-all in
+    let found = records .read-functions .result in
     let done = c .before .enum-told3 .given .1 in
-    let f = c .before .before .before .read-functions .result in
-    let rules = placing (c .before .before .before .before .before .before .before .before) in
-    built-is (c .before .before .before .before .before .before .before .before .before .before .before .before .before .before .before .before .before .before .before .before .before .before .before .args .file .now) (c .before .before .before .before .before .before .before .before .before .before .before .before .before .before .before .before .before .before .before .before .before .before .before .args .t6) (c .before .before .before .before .before .before .before .before .before .before .before .before .before .before .before .before .before .before .before .before .before .before .before .args .count) (c .before .before .before .before .before .before .before .before .before .before .before .before .before .before .before .before .before .before .before .before .before .before .before .args .symbols) (c .before .before .before .before .before .before .before .before .before .before .before .before .before .before .before .before .before .before .before .before .before .before .before .args .records) (c .before .before .before .before .before .before .before .before .before .before .before .before .before .before .before .before .before .before .before .before .before .before .before .pre .0) (target (c .before .before .before .before .before .before .before .before .before .before .before .before .before .before .before .before .before .before .before .before .before .before .before .args .text) (c .before .before .before .before .before .before .before .before .before .before .before .before .before .before .before .before .before .before .before .before .before .before .before .args .size) (c .before .before .before .before .before .before .before .before .before .before .before .before .before .before .before .before .before .before .before .before .before .before .before .args .base) (c .before .before .before .before .before .before .before .before .before .before .before .before .before .before .before .before .before .before .before .before .before .before .before .args .list .now)) (c .before .before .before .before .before .before .before .before .before .before .before .before .before .before .before .before .before .before .before .before .place .result) f _ (rules .1)
-    (edits-found (c .before .before .before .before .before .before .before .before .before .before .before .before .before .before .before .before .before .before .before .before .before .before .before .args .file .now) (c .before .before .before .before .before .before .before .before .before .before .before .before .before .before .before .before .before .before .before .before .before .before .before .args .t6) (c .before .before .before .before .before .before .before .before .before .before .before .before .before .before .before .before .before .before .before .before .before .before .before .args .count) (c .before .before .before .before .before .before .before .before .before .before .before .before .before .before .before .before .before .before .before .before .before .before .before .args .symbols) (c .before .before .before .before .before .before .before .before .before .before .before .before .before .before .before .before .before .before .before .before .before .before .before .args .records) (c .before .before .before .before .before .before .before .before .before .before .before .before .before .before .before .before .before .before .before .before .before .before .before .pre .0) (target (c .before .before .before .before .before .before .before .before .before .before .before .before .before .before .before .before .before .before .before .before .before .before .before .args .text) (c .before .before .before .before .before .before .before .before .before .before .before .before .before .before .before .before .before .before .before .before .before .before .before .args .size) (c .before .before .before .before .before .before .before .before .before .before .before .before .before .before .before .before .before .before .before .before .before .before .before .args .base) (c .before .before .before .before .before .before .before .before .before .before .before .before .before .before .before .before .before .before .before .before .before .before .before .args .list .now)) (rules .0) (passed (c .before .before .before .before .before .before .before .before)) f (found-is (c .before .before .before)) done)
-    (image-is (c .before .before .before .before .before .before .before .before))
-    ∙ sym (all-built (c .before .before .before .before .before .before .before .before .before .before .before .before .before .before .before .before .before .before .before .before .before .before .before .args .file .now) (c .before .before .before .before .before .before .before .before .before .before .before .before .before .before .before .before .before .before .before .before .before .before .before .args .t6) (c .before .before .before .before .before .before .before .before .before .before .before .before .before .before .before .before .before .before .before .before .before .before .before .args .count) (c .before .before .before .before .before .before .before .before .before .before .before .before .before .before .before .before .before .before .before .before .before .before .before .args .symbols) (c .before .before .before .before .before .before .before .before .before .before .before .before .before .before .before .before .before .before .before .before .before .before .before .args .records) (c .before .before .before .before .before .before .before .before .before .before .before .before .before .before .before .before .before .before .before .before .before .before .before .pre .0) (target (c .before .before .before .before .before .before .before .before .before .before .before .before .before .before .before .before .before .before .before .before .before .before .before .args .text) (c .before .before .before .before .before .before .before .before .before .before .before .before .before .before .before .before .before .before .before .before .before .before .before .args .size) (c .before .before .before .before .before .before .before .before .before .before .before .before .before .before .before .before .before .before .before .before .before .before .before .args .base) (c .before .before .before .before .before .before .before .before .before .before .before .before .before .before .before .before .before .before .before .before .before .before .before .args .list .now)) (rules .0) (passed (c .before .before .before .before .before .before .before .before)) f (found-is (c .before .before .before)) done)
+    built-is _ _ _ _ _ (s .pre .0) (aim s) (placement e) found _ (placing e .1)
+    (edits-found _ _ _ _ _ (s .pre .0) (aim s) (placing e .0) (passed relocated-all) found (found-is records) done)
+    (image-is relocated-all)
+    ∙ sym (all-built _ _ _ _ _ (s .pre .0) (aim s) (placing e .0) (passed relocated-all) found (found-is records) done)
 
 pub build-spec : {M : Type 1} → statement M
 build-spec =

@@ -1,39 +1,61 @@
 -- `prepare::prepare` meets its contract: the first stage that refuses is the answer and leaves the image; else the image is what was built.
+use Prim.Native.Nat.{ℕ}
 use mathlib.Core.Path.{_≡_, sym, ap, _∙_}
 use mathlib.Core.Bool.{true}
+use mathlib.Core.List.{List}
 use native.Mathlib.Omega.{arith}
 use borrow.Author.Tests.{eq-eqb, ne-eqb, le-leb, lt-leb}
 use lib.ListN.{length}
 use Rattle.records.specs.Limits.{placedMax}
+use Rattle.records.specs.declared.refusal.Refusal.{Refusal}
 use Rattle.records.specs.declared.refusal.Verdict.the-variants.{Pass}
 use Rattle.payload.specs.Reading.{readRules}
 use Rattle.words.proofs.Splice.{splice-whole}
-use Rattle.prepare.specs.Prepare.{target, outcome, sizesOk, buildRules, allBuilt}
+use Rattle.acceptance.specs.Stages.{Target, target, buildRules}
+use Rattle.prepare.specs.Prepare.{outcome, sizesOk, allBuilt, refusedBy, prepareOf, Faithful}
 use Rattle.prepare.specs.declared.build.Built.{Built}
 use Rattle.prepare.specs.declared.prepare.Prepared.{Prepared}
+use Rattle.prepare.proofs.FaithfulLaws.{owed}
 use Rattle.prepare.proofs.OutcomeLaws.{wrong-sizes, not-read, not-built, prepared, read-told, read-all, ready-by, build-told, built-all, accepted-is, length-built}
 use borrow.Author.Needs.{needs}
 use Rattle.prepare.proofs.prepare.prepare.Statement.{statement}
 use Rattle.prepare.proofs.prepare.prepare.Tie as tie
+
+abbrev aim : tie.Start → Target
+aim s = target (s .args .text) (s .args .size) (s .args .base) (s .args .list .now)
+
+abbrev file-of : tie.Start → List ℕ
+file-of s = s .args .file .now
+
+abbrev slot-of : tie.Start → List ℕ
+slot-of s = s .args .image .now
+
+-- an answer that refuses, with the slot as it was
+refused :
+    (s : tie.Start) {r : Refusal} {x : Prepared} → x ≡ refusedBy r →
+    prepareOf (aim s) (file-of s) (slot-of s) ≡ outcome (refusedBy r) (slot-of s) →
+    (outcome x (slot-of s) ≡ prepareOf (aim s) (file-of s) (slot-of s)) × Faithful (aim s) (file-of s) (slot-of s) (outcome x (slot-of s))
+refused s e f = owed (aim s) (file-of s) (slot-of s) _ (ap (λ (x : Prepared). outcome x (slot-of s)) e ∙ sym f)
 
 refuse-requires : tie.Need-refuse-requires
 refuse-requires c κs = search needs
 
 returns : tie.Need-returns
 returns c =
-    ap (λ (x : Prepared). outcome x (c .before .before .before .before .before .args .image .now)) (c .refuse .ensures)
-    ∙ sym (wrong-sizes (target (c .before .before .before .before .before .args .text) (c .before .before .before .before .before .args .size) (c .before .before .before .before .before .args .base) (c .before .before .before .before .before .args .list .now)) (c .before .before .before .before .before .args .file .now) (c .before .before .before .before .before .args .image .now) (rw (ne-eqb _ _ (c .before .if1 .taken))))
+    let s = c .before .before .before .before .before in
+    refused s (c .refuse .ensures) (wrong-sizes (aim s) (file-of s) (slot-of s) (rw (ne-eqb _ _ (c .before .if1 .taken))))
 
 refuse-requires-2 : tie.Need-refuse-requires-2
 refuse-requires-2 c κs = search needs
 
 returns-2 : tie.Need-returns-2
 returns-2 c =
-    ap (λ (x : Prepared). outcome x (c .before .before .before .before .before .before .args .image .now)) (c .refuse2 .ensures)
-    ∙ sym (wrong-sizes (target (c .before .before .before .before .before .before .args .text) (c .before .before .before .before .before .before .args .size) (c .before .before .before .before .before .before .args .base) (c .before .before .before .before .before .before .args .list .now)) (c .before .before .before .before .before .before .args .file .now) (c .before .before .before .before .before .before .args .image .now) (rw (eq-eqb _ _ (c .before .before .if1 .left), lt-leb _ _ (c .before .if2 .taken))))
+    let s = c .before .before .before .before .before .before in
+    refused s (c .refuse2 .ensures)
+    (wrong-sizes (aim s) (file-of s) (slot-of s) (rw (eq-eqb _ _ (c .before .before .if1 .left), lt-leb _ _ (c .before .if2 .taken))))
 
 -- the sizes are right
-sizes : (c : tie.Else2) → sizesOk (target (c .before .before .before .before .before .args .text) (c .before .before .before .before .before .args .size) (c .before .before .before .before .before .args .base) (c .before .before .before .before .before .args .list .now)) (c .before .before .before .before .before .args .image .now) ≡ true
+sizes : (c : tie.Else2) → let s = c .before .before .before .before .before in sizesOk (aim s) (slot-of s) ≡ true
 sizes c = rw (eq-eqb _ _ (c .before .if1 .left), le-leb _ _ (c .if2 .left))
 
 read-requires : tie.Need-read-requires
@@ -47,63 +69,88 @@ refuse-requires-3 c κs = search needs
 
 returns-3 : tie.Need-returns-3
 returns-3 c =
-    ap (λ (x : Prepared). outcome x (c .before .before .before .before .before .before .before .before .before .before .args .image .now)) (c .refuse3 .ensures)
-    ∙ sym (not-read (target (c .before .before .before .before .before .before .before .before .before .before .args .text) (c .before .before .before .before .before .before .before .before .before .before .args .size) (c .before .before .before .before .before .before .before .before .before .before .args .base) (c .before .before .before .before .before .before .before .before .before .before .args .list .now)) (c .before .before .before .before .before .before .before .before .before .before .args .file .now) (c .before .before .before .before .before .before .before .before .before .before .args .image .now) (sizes (c .before .before .before .before .before)) _ (read-told (c .before .before .before .before .before .before .before .before .before .before .args .file .now) (c .before .before .before .before .read .result) (c .before .before .before .before .read .ensures) _ (c .before .before .read-verdict .given .1)))
+    let right = c .before .before .before .before .before in
+    let s = right .before .before .before .before .before in
+    let read = c .before .before .before .before .read in
+    refused s (c .refuse3 .ensures)
+    (not-read (aim s) (file-of s) (slot-of s) (sizes right) _ (read-told (file-of s) (read .result) (read .ensures) _ (c .before .before .read-verdict .given .1)))
 
 enum-told : tie.Need-enum-told
 enum-told c = search needs
 
 build-requires : tie.Need-build-requires
-build-requires c κs = (
-  ready-by (c .before .before .before .before .before .before .before .before .before .args .file .now) (c .before .before .before .read .result) (c .before .before .before .read .ensures) (c .before .enum-told .given .1),
-  omega arith,
-)
+build-requires c κs =
+    let s = c .before .before .before .before .before .before .before .before .before in
+    let read = c .before .before .before .read in
+    (ready-by (file-of s) (read .result) (read .ensures) (c .before .enum-told .given .1), omega arith)
 
 enum-known-built-verdict : tie.Need-enum-known-built-verdict
 enum-known-built-verdict c = search needs
+
+-- the reading has passed
+read-passes : (c : tie.After-enum-told) → let s = c .before .before .before .before .before .before .before .before in readRules (file-of s) ≡ Pass
+read-passes c =
+    let s = c .before .before .before .before .before .before .before .before in
+    let read = c .before .before .read in
+    read-told (file-of s) (read .result) (read .ensures) _ (c .enum-told .given .1)
 
 refuse-requires-4 : tie.Need-refuse-requires-4
 refuse-requires-4 c κs = search needs
 
 returns-4 : tie.Need-returns-4
 returns-4 c =
-    ap (λ (x : Prepared). outcome x (c .before .before .before .before .before .before .before .before .before .before .before .before .before .before .args .image .now)) (c .refuse4 .ensures)
-    ∙ sym (not-built (target (c .before .before .before .before .before .before .before .before .before .before .before .before .before .before .args .text) (c .before .before .before .before .before .before .before .before .before .before .before .before .before .before .args .size) (c .before .before .before .before .before .before .before .before .before .before .before .before .before .before .args .base) (c .before .before .before .before .before .before .before .before .before .before .before .before .before .before .args .list .now)) (c .before .before .before .before .before .before .before .before .before .before .before .before .before .before .args .file .now) (c .before .before .before .before .before .before .before .before .before .before .before .before .before .before .args .image .now) (sizes (c .before .before .before .before .before .before .before .before .before)) _ (read-told (c .before .before .before .before .before .before .before .before .before .before .before .before .before .before .args .file .now) (c .before .before .before .before .before .before .before .before .read .result) (c .before .before .before .before .before .before .before .before .read .ensures) _ (c .before .before .before .before .before .before .enum-told .given .1)) (build-told (target (c .before .before .before .before .before .before .before .before .before .before .before .before .before .before .args .text) (c .before .before .before .before .before .before .before .before .before .before .before .before .before .before .args .size) (c .before .before .before .before .before .before .before .before .before .before .before .before .before .before .args .base) (c .before .before .before .before .before .before .before .before .before .before .before .before .before .before .args .list .now)) (c .before .before .before .before .before .before .before .before .before .before .before .before .before .before .args .file .now) (c .before .before .before .before .build .result) (c .before .before .before .before .build .ensures) _ (c .before .before .built-verdict .given .1)))
+    let read = c .before .before .before .before .before .before in
+    let right = read .before .before .before in
+    let s = right .before .before .before .before .before in
+    let build = c .before .before .before .before .build in
+    refused s (c .refuse4 .ensures)
+    (not-built (aim s) (file-of s) (slot-of s) (sizes right) _ (read-passes read) (build-told (aim s) (file-of s) (build .result) (build .ensures) _ (c .before .before .built-verdict .given .1)))
 
 enum-told-2 : tie.Need-enum-told-2
 enum-told-2 c = search needs
 
 -- where all stages have passed
 module _ (c : tie.After-enum-told2) where
-  read-passes : readRules (c .before .before .before .before .before .before .before .before .before .before .before .before .args .file .now) ≡ Pass
-  read-passes = read-told (c .before .before .before .before .before .before .before .before .before .before .before .before .args .file .now) (c .before .before .before .before .before .before .read .result) (c .before .before .before .before .before .before .read .ensures) _ (c .before .before .before .before .enum-told .given .1)
+  abbrev start : tie.Start
+  start = c .before .before .before .before .before .before .before .before .before .before .before .before
 
-  build-passes : buildRules (target (c .before .before .before .before .before .before .before .before .before .before .before .before .args .text) (c .before .before .before .before .before .before .before .before .before .before .before .before .args .size) (c .before .before .before .before .before .before .before .before .before .before .before .before .args .base) (c .before .before .before .before .before .before .before .before .before .before .before .before .args .list .now)) (c .before .before .before .before .before .before .before .before .before .before .before .before .args .file .now) ≡ Pass
-  build-passes = build-told (target (c .before .before .before .before .before .before .before .before .before .before .before .before .args .text) (c .before .before .before .before .before .before .before .before .before .before .before .before .args .size) (c .before .before .before .before .before .before .before .before .before .before .before .before .args .base) (c .before .before .before .before .before .before .before .before .before .before .before .before .args .list .now)) (c .before .before .before .before .before .before .before .before .before .before .before .before .args .file .now) (c .before .before .build .result) (c .before .before .build .ensures) _ (c .enum-told2 .given .1)
+  abbrev reading-read : tie.After-enum-told
+  reading-read = c .before .before .before .before
 
-  built-whole : c .before .before .build .result ≡ allBuilt (target (c .before .before .before .before .before .before .before .before .before .before .before .before .args .text) (c .before .before .before .before .before .before .before .before .before .before .before .before .args .size) (c .before .before .before .before .before .before .before .before .before .before .before .before .args .base) (c .before .before .before .before .before .before .before .before .before .before .before .before .args .list .now)) (c .before .before .before .before .before .before .before .before .before .before .before .before .args .file .now)
-  built-whole = built-all (target (c .before .before .before .before .before .before .before .before .before .before .before .before .args .text) (c .before .before .before .before .before .before .before .before .before .before .before .before .args .size) (c .before .before .before .before .before .before .before .before .before .before .before .before .args .base) (c .before .before .before .before .before .before .before .before .before .before .before .before .args .list .now)) (c .before .before .before .before .before .before .before .before .before .before .before .before .args .file .now) (c .before .before .build .result) (c .before .before .build .ensures) (c .enum-told2 .given .1)
+  build-passes : buildRules (aim start) (file-of start) ≡ Pass
+  build-passes = build-told (aim start) (file-of start) (c .before .before .build .result) (c .before .before .build .ensures) _ (c .enum-told2 .given .1)
+
+  built-whole : c .before .before .build .result ≡ allBuilt (aim start) (file-of start)
+  built-whole = built-all (aim start) (file-of start) (c .before .before .build .result) (c .before .before .build .ensures) (c .enum-told2 .given .1)
 
   slot-length : length (c .before .before .build .result .image) ≡ placedMax
-  slot-length = ap (λ (x : Built). length (x .image)) built-whole ∙ length-built (target (c .before .before .before .before .before .before .before .before .before .before .before .before .args .text) (c .before .before .before .before .before .before .before .before .before .before .before .before .args .size) (c .before .before .before .before .before .before .before .before .before .before .before .before .args .base) (c .before .before .before .before .before .before .before .before .before .before .before .before .args .list .now)) (c .before .before .before .before .before .before .before .before .before .before .before .before .args .file .now) read-passes build-passes
+  slot-length = ap (λ (x : Built). length (x .image)) built-whole ∙ length-built (aim start) (file-of start) (read-passes reading-read) build-passes
 
 slice-aggregate-copy : tie.Need-slice-aggregate-copy
 slice-aggregate-copy c = search needs
 
 copy-requires : tie.Need-copy-requires
-copy-requires c κs = omega (arith, slot-length (c .before .before .before), c .before .before .before .before .before .before .before .before .before .before .before .if1 .left)
+copy-requires c κs =
+    let passed = c .before .before .before in
+    omega (arith, slot-length passed, reading-read passed .before .before .before .before .if1 .left)
 
 same-length : tie.Need-same-length
 same-length c = search needs
 
 returns-5 : tie.Need-returns-5
 returns-5 c =
-    let same : length (c .before .before .before .before .before .before .before .before .before .before .before .build .result .image) ≡ length (c .before .before .before .before .before .before .before .before .before .before .before .before .before .before .before .before .before .before .before .before .before .args .image .now) = omega (arith, slot-length (c .before .before .before .before .before .before .before .before .before), c .before .before .before .before .before .before .before .before .before .before .before .before .before .before .before .before .before .if1 .left) in
-    accepted-is (target (c .before .before .before .before .before .before .before .before .before .before .before .before .before .before .before .before .before .before .before .before .before .args .text) (c .before .before .before .before .before .before .before .before .before .before .before .before .before .before .before .before .before .before .before .before .before .args .size) (c .before .before .before .before .before .before .before .before .before .before .before .before .before .before .before .before .before .before .before .before .before .args .base) (c .before .before .before .before .before .before .before .before .before .before .before .before .before .before .before .before .before .before .before .before .before .args .list .now)) (c .before .before .before .before .before .before .before .before .before .before .before .before .before .before .before .before .before .before .before .before .before .args .file .now) _ (c .before .before .before .before .before .before .before .before .before .before .before .before .before .before .before .read .result) (c .before .before .before .before .before .before .before .before .before .before .before .build .result)
-    (read-all (c .before .before .before .before .before .before .before .before .before .before .before .before .before .before .before .before .before .before .before .before .before .args .file .now) (c .before .before .before .before .before .before .before .before .before .before .before .before .before .before .before .read .result) (c .before .before .before .before .before .before .before .before .before .before .before .before .before .before .before .read .ensures) (c .before .before .before .before .before .before .before .before .before .before .before .before .before .enum-told .given .1))
-    (built-whole (c .before .before .before .before .before .before .before .before .before))
-    (c .before .before .before .before .before .copy .ensures ∙ splice-whole (c .before .before .before .before .before .before .before .before .before .before .before .before .before .before .before .before .before .before .before .before .before .args .image .now) _ same)
-    ∙ sym (prepared (target (c .before .before .before .before .before .before .before .before .before .before .before .before .before .before .before .before .before .before .before .before .before .args .text) (c .before .before .before .before .before .before .before .before .before .before .before .before .before .before .before .before .before .before .before .before .before .args .size) (c .before .before .before .before .before .before .before .before .before .before .before .before .before .before .before .before .before .before .before .before .before .args .base) (c .before .before .before .before .before .before .before .before .before .before .before .before .before .before .before .before .before .before .before .before .before .args .list .now)) (c .before .before .before .before .before .before .before .before .before .before .before .before .before .before .before .before .before .before .before .before .before .args .file .now) (c .before .before .before .before .before .before .before .before .before .before .before .before .before .before .before .before .before .before .before .before .before .args .image .now) (sizes (c .before .before .before .before .before .before .before .before .before .before .before .before .before .before .before .before)) (read-passes (c .before .before .before .before .before .before .before .before .before)) (build-passes (c .before .before .before .before .before .before .before .before .before)))
+    let passed = c .before .before .before .before .before .before .before .before .before in
+    let s = start passed in
+    let read = reading-read passed in
+    let right = read .before .before .before in
+    let build = passed .before .before .build in
+    let same : length (build .result .image) ≡ length (slot-of s) = omega (arith, slot-length passed, right .before .if1 .left) in
+    owed (aim s) (file-of s) (slot-of s) _
+    (accepted-is (aim s) (file-of s) _ (read .before .before .read .result) (build .result)
+    (read-all (file-of s) (read .before .before .read .result) (read .before .before .read .ensures) (read .enum-told .given .1))
+    (built-whole passed)
+    (c .before .before .before .before .before .copy .ensures ∙ splice-whole (slot-of s) _ same)
+    ∙ sym (prepared (aim s) (file-of s) (slot-of s) (sizes right) (read-passes read) (build-passes passed)))
 
 pub prepare-spec : {M : Type 1} → statement M
 prepare-spec =

@@ -1,0 +1,15 @@
+pub mod AlikeSections
+pub mod AlikeStages
+pub mod Exactness
+pub mod FunctionRules
+pub mod KnownAnswers
+pub mod PairRules
+pub mod Parts
+pub mod PlacementRules
+pub mod ReadSections
+pub mod ReadingRules
+pub mod Refusals
+pub mod RelocationRules
+pub mod RelocationVerdict
+pub mod SameAnswers
+pub mod Told
