@@ -1,6 +1,8 @@
 -- What `urddolwy_prepare` returns, and what it leaves in its three buffers.
 use Prim.Native.Nat.{ℕ, _+_, _^_}
-use mathlib.Core.Bool.{Bool, _&&_}
+use mathlib.Core.Path.{_≡_}
+use mathlib.Core.Bool.{Bool, true, _&&_}
+use mathlib.Core.Logic.{_↔_}
 use mathlib.Core.List.{List}
 use lib.Dec.{leb, eqb}
 use lib.ListN.{length}
@@ -13,6 +15,7 @@ use Rattle.records.specs.declared.refusal.Verdict.{Verdict}
 use Rattle.records.specs.declared.refusal.Verdict.the-variants.{Pass, Refuse}
 use Rattle.symbols.specs.SymbolList.{valid}
 use Rattle.encode.specs.Encode.{editsOf, editsSize, summaryOf, summarySize}
+use Rattle.acceptance.specs.Keeps.{Keeps}
 use Rattle.acceptance.specs.Stages.{Target, relocatedOf}
 use Rattle.prepare.specs.Prepare.{prepareRules, acceptedOf}
 
@@ -55,3 +58,14 @@ leftBy t file image edits summary (Refuse r) = left (codeOf r) image edits summa
 
 unfoldable pub callOf : Target → List ℕ → List ℕ → List ℕ → List ℕ → Left
 callOf t file image edits summary = leftBy t file image edits summary (callRules t file image edits summary)
+
+-- sizes and ranges are right, the list is a symbol list, and the payload keeps every rule
+pub record Acceptable (t : Target) (file image edits summary : List ℕ) : Type 0 where
+  pub buffers : buffersOk (length image) (length edits) (length summary) ≡ true
+  pub ranges : rangesOk t ≡ true
+  pub listed : valid (t .list) ≡ true
+  pub payload : Keeps t file
+
+-- 0 is returned exactly then
+abbrev pub ZeroExactly : Target → List ℕ → List ℕ → List ℕ → List ℕ → ℕ → Type 0
+ZeroExactly t file image edits summary answer = (answer ≡ 0) ↔ Acceptable t file image edits summary

@@ -2,7 +2,7 @@
 ghost use mathlib.Core.Path.{_≡_};
 ghost use mathlib.Core.List.{[]};
 ghost use Rattle.acceptance.specs.Stages.{target};
-ghost use Rattle.abi.specs.Preparing.{rangesOk, buffersOk, left, callOf};
+ghost use Rattle.abi.specs.Preparing.{rangesOk, buffersOk, left, callOf, ZeroExactly};
 use records::payload::Payload;
 use records::refusal::Verdict;
 
@@ -52,7 +52,7 @@ pub extern "C" fn urddolwy_prepare(
     edits: &mut [u8],
     summary: &mut [u8],
 ) -> u64
-    ensures { λ r. ⌜ left r (now (image .exit)) (now (edits .exit)) (now (summary .exit)) ≡ callOf (target text size base (now (list .entry))) (now (file .entry)) (now (image .entry)) (now (edits .entry)) (now (summary .entry)) ⌝ }
+    ensures { λ r. ⌜ (left r (now (image .exit)) (now (edits .exit)) (now (summary .exit)) ≡ callOf (target text size base (now (list .entry))) (now (file .entry)) (now (image .entry)) (now (edits .entry)) (now (summary .entry))) × ZeroExactly (target text size base (now (list .entry))) (now (file .entry)) (now (image .entry)) (now (edits .entry)) (now (summary .entry)) r ⌝ }
 {
     if !buffers_ok(image.len(), edits.len(), summary.len()) {
         return 22;

@@ -1,20 +1,18 @@
 -- Relocation over the slot's bytes: what the cursor finds, a turn and the end of each loop, and that the slot keeps its length.
-use Prim.Native.Nat.{ℕ, zero, suc, _+_, _*_, _-_, _^_, _≤_, _<_}
+use Prim.Native.Nat.{ℕ, zero, suc, _+_, _*_, _-_, _≤_, _<_}
 use mathlib.Core.Path.{_≡_, refl, sym, _∙_}
 use mathlib.Core.Bool.{Bool, true, false, cond, and-eq-true-iff}
 use mathlib.Core.List.{List, [], _∷_}
-use native.Mathlib.Nat.{pow-suc}
 use native.Mathlib.Numerals.{add-one}
 use native.Mathlib.Omega.{arith}
 use borrow.Author.Tests.{ltb-true, ltb-false}
 use denote.Enum.Declared.{tagOf}
 use lib.Dec.{ltb}
-use lib.ListN.{length, getD, take, drop, length-take, length-drop}
-use lib.Seq.{getD-drop}
+use lib.ListN.{length, getD, length-take, length-drop}
 use types.Run.{OneOf, miss}
-use Rattle.words.specs.Number.{le, leAt, leBytes}
+use Rattle.words.specs.Number.{leBytes}
 use Rattle.words.specs.Splice.{part}
-use Rattle.words.proofs.Number.{power-within, length-leBytes}
+use Rattle.words.proofs.Number.{length-leBytes}
 use Rattle.words.proofs.Splice.{length-splice}
 use Rattle.records.specs.Limits.{placedMax}
 use Rattle.records.specs.declared.refusal.Verdict.{Verdict}
@@ -107,23 +105,6 @@ module _ (entries : List ℕ) (c : Cursor) where
           entryCount entries ≤ c .entry
       by-cases true h e = let z : _≡_ {A = ℕ} 0 1 = cc in absurd (omega arith)
       by-cases false h e = ltb-false _ _ h
-
--- ---- the number of a relocation's symbol, which four bytes hold
-
-taken-below : (n : ℕ) (bs : List ℕ) → ((i : ℕ) → getD bs i 0 < 256) → le (take n bs) < 256 ^ n
-unfolding le
-taken-below zero bs h = omega arith
-taken-below (suc n) [] h = omega (arith, power-within {k = 0} {m = suc n} (omega arith))
-taken-below (suc n) (b ∷ bs) h = rw pow-suc (omega (arith, h 0, taken-below n bs (λ i. h (suc i))))
-
-module _ (s : List ℕ) (bytes : (i : ℕ) → getD s i 0 < 256) (at : ℕ) where
-  number-below : (n : ℕ) → leAt n s at < 256 ^ n
-  unfolding leAt part
-  number-below n = taken-below n (drop at s) (λ i. rw getD-drop (bytes (at + i)))
-
-pub symbol-below : (s : List ℕ) → ((i : ℕ) → getD s i 0 < 256) → (at : ℕ) → relocationOf s at .«r_symbol» < 2 ^ 32
-unfolding relocationOf
-symbol-below s bytes at = number-below s bytes (at + 12) 4
 
 -- ---- the entries of one section
 

@@ -1,4 +1,5 @@
 pub mod Entries
 pub mod Linking
 pub mod Relocating
+pub mod Resolved
 pub mod Symbols

@@ -148,3 +148,8 @@ pub record Linkable (size : ℕ) (file : List ℕ) (ss : List SectionEntry) (n s
   pub inside :
       (i : ℕ) → i < n → isRelocating ss (sectionIn ss i) ≡ true →
       getD offsets (sectionIn ss i .header .«sh_info») 0 + sectionIn ss (sectionIn ss i .header .«sh_info») .header .«sh_size» ≤ placedMax
+
+-- the same for the relocations of section i, whatever resolves their symbols
+abbrev pub LinkableAt : ℕ → List ℕ → List SectionEntry → List ℕ → ℕ → Type 0
+LinkableAt size file ss offsets i =
+    (n : ℕ) × (symbols : ℕ) × (limits : List ℕ) × Linkable size file ss n symbols offsets limits × (i < n)

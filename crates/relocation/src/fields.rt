@@ -1,12 +1,14 @@
 // What one relocation stores, and where in the slot.
 ghost use mathlib.Core.Path.{_≡_};
-ghost use Prim.Native.Nat.{_+_, _≤_, _<_, _^_};
+ghost use Prim.Native.Nat.{_+_, _≤_, _<_};
 ghost use lib.ListN.{length, getD};
 ghost use Rattle.records.specs.Limits.{placedMax};
-ghost use Rattle.relocation.specs.Linking.{linking};
+ghost use Rattle.relocation.specs.Linking.{Linking};
 ghost use Rattle.relocation.specs.Relocating.{storedAt, fieldOf};
+ghost use Rattle.relocation.specs.Resolved.{Given};
+use super::resolved::Resolved;
+use super::resolved::{self};
 use super::values::SymbolValue;
-use super::values::{self};
 use elf::Relocation;
 use machine::RelocationType;
 use records::refusal::Reason;
@@ -31,18 +33,15 @@ fn store(t: RelocationType, at: u64, value: u64) -> Field
 // One relocation, made in section `target` of `size` bytes: type, field, symbol, range.
 pub fn field_of(
     base: u64,
-    count: usize,
     offsets: &[u64],
-    limits: &[u64],
-    table: &[u8],
-    strings: &[u8],
-    list: &[u8],
+    values: &[u64; Resolved::SYMBOLS_MAX],
+    faults: &[u64; Resolved::SYMBOLS_MAX],
     target: usize,
     size: u64,
     r: Relocation,
 ) -> Field
-    requires { ⌜ (count ≤ length (now offsets)) × (count ≤ length (now limits)) × (target < count) × (getD (now offsets) target 0 + size ≤ placedMax) × (r .«r_symbol» < 2 ^ 32) ⌝ }
-    ensures { λ f. ⌜ f ≡ fieldOf (linking base count (now (offsets .entry)) (now (limits .entry)) (now (table .entry)) (now (strings .entry)) (now (list .entry))) target size r ⌝ }
+    requires { ⌜ (target < length (now offsets)) × (getD (now offsets) target 0 + size ≤ placedMax) × ((l : Linking) × Given l base (now offsets) (now values) (now faults)) ⌝ }
+    ensures { λ f. ⌜ ((l : Linking) → Given l base (now (offsets .entry)) (now (values .entry)) (now (faults .entry)) → f ≡ fieldOf l target size r) ⌝ }
 {
     let t = machine::relocation_type(r.r_type);
     if let RelocationType::Nothing = t {
@@ -55,16 +54,7 @@ pub fn field_of(
         return Field::Fault(Reason::Invalid);
     }
     let start = offsets[target];
-    match values::symbol_value(
-        base,
-        count,
-        offsets,
-        limits,
-        table,
-        strings,
-        list,
-        r.r_symbol,
-    ) {
+    match resolved::resolved_value(values, faults, r.r_symbol) {
         SymbolValue::Refused(reason) => Field::Fault(reason),
         SymbolValue::Value(s) => {
             let place = words::address::add(words::address::add(base, start), r.r_offset);

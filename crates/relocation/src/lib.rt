@@ -2,4 +2,5 @@
 pub mod cursor;
 pub mod fields;
 pub mod relocate;
+pub mod resolved;
 pub mod values;

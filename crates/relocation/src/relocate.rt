@@ -6,13 +6,16 @@ ghost use lib.ListN.{length, getD};
 ghost use Rattle.records.specs.Limits.{sectionsMax, placedMax, fileMax};
 ghost use Rattle.object.specs.Kinds.{isKind};
 ghost use Rattle.object.specs.declared.kinds.Kind.the-variants.{Relocations};
-ghost use Rattle.relocation.specs.Linking.{linking};
+ghost use Rattle.relocation.specs.Linking.{Linking};
 ghost use Rattle.relocation.specs.Entries.{entryCount};
-ghost use Rattle.relocation.specs.Relocating.{Linkable, linkingOf, relocated, fieldFits, storeIn, isRelocating, relocateEntries, relocateSection, relocateAll};
+ghost use Rattle.relocation.specs.Relocating.{Linkable, LinkableAt, linkingOf, relocated, fieldFits, storeIn, isRelocating, relocateEntries, relocateSection, relocateAll};
+ghost use Rattle.relocation.specs.Resolved.{resolved, Given};
 use super::cursor::Cursor;
 use super::cursor::Next;
 use super::fields::Field;
 use super::fields::{self};
+use super::resolved::Resolved;
+use super::resolved::{self};
 use object::kinds::Kind;
 use object::sections::SectionEntry;
 use object::sections::{self};
@@ -35,19 +38,16 @@ fn store_field(image: &mut [u8], f: Field)
 fn relocate_entries(
     image: &mut [u8],
     base: u64,
-    count: usize,
     offsets: &[u64],
-    limits: &[u64],
-    table: &[u8],
-    strings: &[u8],
-    list: &[u8],
+    values: &[u64; Resolved::SYMBOLS_MAX],
+    faults: &[u64; Resolved::SYMBOLS_MAX],
     entries: &[u8],
     section: u16,
     target: usize,
     size: u64,
 ) -> Verdict
-    requires { ⌜ (length (now image) ≡ placedMax) × (count ≤ length (now offsets)) × (count ≤ length (now limits)) × (target < count) × (getD (now offsets) target 0 + size ≤ placedMax) × (length (now entries) ≤ fileMax) ⌝ }
-    ensures { λ r. ⌜ relocated r (now (image .exit)) ≡ relocateEntries (linking base count (now (offsets .entry)) (now (limits .entry)) (now (table .entry)) (now (strings .entry)) (now (list .entry))) target size (now (entries .entry)) section 0 (entryCount (now (entries .entry))) (now (image .entry)) ⌝ }
+    requires { ⌜ (length (now image) ≡ placedMax) × (target < length (now offsets)) × (getD (now offsets) target 0 + size ≤ placedMax) × (length (now entries) ≤ fileMax) × ((l : Linking) × Given l base (now offsets) (now values) (now faults)) ⌝ }
+    ensures { λ r. ⌜ ((l : Linking) → Given l base (now (offsets .entry)) (now (values .entry)) (now (faults .entry)) → relocated r (now (image .exit)) ≡ relocateEntries l target size (now (entries .entry)) section 0 (entryCount (now (entries .entry))) (now (image .entry))) ⌝ }
 {
     let mut cursor = Cursor::start();
     loop {
@@ -55,18 +55,7 @@ fn relocate_entries(
         let Next::Entry(r, next) = cursor.next(entries) else {
             return Verdict::Pass;
         };
-        let f = fields::field_of(
-            base,
-            count,
-            offsets,
-            limits,
-            table,
-            strings,
-            list,
-            target,
-            size,
-            r,
-        );
+        let f = fields::field_of(base, offsets, values, faults, target, size, r);
         if let Field::Fault(reason) = f {
             let number = e as u16;
             return Verdict::Refuse(Refusal {
@@ -99,20 +88,18 @@ fn is_relocating(table: [SectionEntry; Payload::SECTIONS_MAX], s: SectionEntry) 
 }
 
 // The relocations of section i, where it is a relocation section whose target is not ignored.
-fn relocate_section(
+fn relocate_section<'a>(
     image: &mut [u8],
     file: &[u8],
     table: [SectionEntry; Payload::SECTIONS_MAX],
-    count: usize,
-    symbols: usize,
     base: u64,
     offsets: &[u64],
-    limits: &[u64],
-    list: &[u8],
+    values: &'a [u64; Resolved::SYMBOLS_MAX],
+    faults: &'a [u64; Resolved::SYMBOLS_MAX],
     i: usize,
 ) -> Verdict
-    requires { ⌜ Linkable (length (now image)) (now file) table count symbols (now offsets) (now limits) × (i < count) ⌝ }
-    ensures { λ r. ⌜ relocated r (now (image .exit)) ≡ relocateSection (linkingOf base (now (file .entry)) table count symbols (now (offsets .entry)) (now (limits .entry)) (now (list .entry))) (now (file .entry)) table i (now (image .entry)) ⌝ }
+    requires { ⌜ LinkableAt (length (now image)) (now file) table (now offsets) i × ((l : Linking) × Given l base (now offsets) (now values) (now faults)) ⌝ }
+    ensures { λ r. ⌜ ((l : Linking) → Given l base (now (offsets .entry)) (now (values .entry)) (now (faults .entry)) → relocated r (now (image .exit)) ≡ relocateSection l (now (file .entry)) table i (now (image .entry))) ⌝ }
 {
     let one = table[i];
     if !is_relocating(table, one) {
@@ -122,27 +109,41 @@ fn relocate_section(
     let target = h.sh_info as usize;
     let made_in = table[target];
     let target_header = made_in.header;
+    let entries = sections::contents_of(file, h);
+    relocate_entries(
+        image,
+        base,
+        offsets,
+        values,
+        faults,
+        entries,
+        i as u16,
+        target,
+        target_header.sh_size,
+    )
+}
+
+// The payload's symbols, resolved. `symbols` is the symbol table's index.
+fn resolve_symbols(
+    file: &[u8],
+    table: [SectionEntry; Payload::SECTIONS_MAX],
+    count: usize,
+    symbols: usize,
+    base: u64,
+    offsets: &[u64],
+    limits: &[u64],
+    list: &[u8],
+) -> Resolved
+    requires { ⌜ Linkable placedMax (now file) table count symbols (now offsets) (now limits) ⌝ }
+    ensures { λ r. ⌜ r ≡ resolved (linkingOf base (now (file .entry)) table count symbols (now (offsets .entry)) (now (limits .entry)) (now (list .entry))) ⌝ }
+{
     let symbol_entry = table[symbols];
     let symbol_header = symbol_entry.header;
     let link = symbol_header.sh_link as usize;
     let string_entry = table[link];
     let symbol_table = sections::contents_of(file, symbol_header);
     let strings = sections::contents_of(file, string_entry.header);
-    let entries = sections::contents_of(file, h);
-    relocate_entries(
-        image,
-        base,
-        count,
-        offsets,
-        limits,
-        symbol_table,
-        strings,
-        list,
-        entries,
-        i as u16,
-        target,
-        target_header.sh_size,
-    )
+    resolved::resolve_all(base, count, offsets, limits, symbol_table, strings, list)
 }
 
 // All relocations, by section index, up to the first that is refused. `symbols` is the symbol table's index.
@@ -160,18 +161,17 @@ pub fn relocate(
     requires { ⌜ Linkable (length (now image)) (now file) table count symbols (now offsets) (now limits) ⌝ }
     ensures { λ r. ⌜ relocated r (now (image .exit)) ≡ relocateAll (linkingOf base (now (file .entry)) table count symbols (now (offsets .entry)) (now (limits .entry)) (now (list .entry))) (now (file .entry)) table count (now (image .entry)) ⌝ }
 {
+    let resolved = resolve_symbols(file, table, count, symbols, base, offsets, limits, list);
     let mut i = 0;
     while i < count {
         let v = relocate_section(
             image,
             file,
             table,
-            count,
-            symbols,
             base,
             offsets,
-            limits,
-            list,
+            &resolved.values,
+            &resolved.faults,
             i,
         );
         if let Verdict::Refuse(_) = v {

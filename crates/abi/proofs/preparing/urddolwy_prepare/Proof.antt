@@ -12,7 +12,8 @@ use Rattle.encode.specs.Encode.{Fitting}
 use Rattle.acceptance.specs.Stages.{Target, target, relocatedOf}
 use Rattle.prepare.specs.Prepare.{Outcome, outcome, prepareRules, acceptedOf, prepareOf}
 use Rattle.prepare.specs.declared.prepare.Prepared.{Prepared}
-use Rattle.abi.specs.Preparing.{rangesOk, buffersOk, Left, leftBy, callOf}
+use Rattle.abi.specs.Preparing.{rangesOk, buffersOk, left, leftBy, callOf, ZeroExactly}
+use Rattle.abi.proofs.Accepting.{owed}
 use Rattle.abi.proofs.Calls.{wrong-call, wrong-list, by-payload, rules-told, outcome-is, few-records, fitting, text-ends, ranges-any, buffers-told, left-same, written}
 use borrow.Author.Needs.{needs}
 use Rattle.abi.proofs.preparing.urddolwy_prepare.Statement.{statement}
@@ -34,13 +35,24 @@ edits-of s = s .args .edits .now
 abbrev summary-of : tie.Start → List ℕ
 summary-of s = s .args .summary .now
 
+-- what is owed at a return
+abbrev Owed : tie.Start → ℕ → List ℕ → List ℕ → List ℕ → Type 0
+Owed s answer slot edits summary =
+    (left answer slot edits summary ≡ callOf (aim s) (file-of s) (slot-of s) (edits-of s) (summary-of s))
+    × ZeroExactly (aim s) (file-of s) (slot-of s) (edits-of s) (summary-of s) answer
+
+whole :
+    (s : tie.Start) {answer : ℕ} {slot edits summary : List ℕ} →
+    left answer slot edits summary ≡ callOf (aim s) (file-of s) (slot-of s) (edits-of s) (summary-of s) → Owed s answer slot edits summary
+whole s same = owed (aim s) (file-of s) (slot-of s) (edits-of s) (summary-of s) _ _ _ _ same
+
 buffers-ok-requires : tie.Need-buffers-ok-requires
 buffers-ok-requires c κs = search needs
 
 returns : tie.Need-returns
 returns c =
     let s = c .before .before .before .before .before .before .before in
-    sym (wrong-call (aim s) (file-of s) (slot-of s) (edits-of s) (summary-of s) (rw (refuted (c .before .buffers-ok .ensures) (c .if1 .taken))))
+    whole s (sym (wrong-call (aim s) (file-of s) (slot-of s) (edits-of s) (summary-of s) (rw (refuted (c .before .buffers-ok .ensures) (c .if1 .taken)))))
 
 ranges-ok-requires : tie.Need-ranges-ok-requires
 ranges-ok-requires c κs = search needs
@@ -52,9 +64,10 @@ in-ranges c = c .ranges-ok .ensures ∙ ranges-any _ _ _ (c .before .before .bef
 returns-2 : tie.Need-returns-2
 returns-2 c =
     let s = c .before .before .before .before .before .before .before .before .before in
-    sym
+    whole s
+    (sym
     (wrong-call (aim s) (file-of s) (slot-of s) (edits-of s) (summary-of s)
-    (rw (held (c .before .before .before .buffers-ok .ensures) (c .before .before .if1 .left), refuted (in-ranges (c .before)) (c .if2 .taken))))
+    (rw (held (c .before .before .before .buffers-ok .ensures) (c .before .before .if1 .left), refuted (in-ranges (c .before)) (c .if2 .taken)))))
 
 -- the sizes and the ranges are right
 module _ (c : tie.Else2) where
@@ -77,7 +90,8 @@ returns-3 : tie.Need-returns-3
 returns-3 c =
     let sized = c .before .before in
     let s = start sized in
-    sym (wrong-list (aim s) (file-of s) (slot-of s) (edits-of s) (summary-of s) (right sized) (refuted (c .before .is-valid .ensures) (c .if3 .taken)))
+    whole s
+    (sym (wrong-list (aim s) (file-of s) (slot-of s) (edits-of s) (summary-of s) (right sized) (refuted (c .before .is-valid .ensures) (c .if3 .taken))))
 
 prepare-requires : tie.Need-prepare-requires
 prepare-requires c κs = search needs
@@ -124,9 +138,10 @@ returns-4 c =
     let preparing = c .before .before .before .before .before .before in
     let s = called preparing in
     let told = c .before .before .verdict .given .1 in
-    left-same (c .code .ensures)
+    whole s
+    (left-same (c .code .ensures)
     (ap (λ (x : Outcome). x .image) (outcome-is (aim s) (file-of s) (slot-of s) (answer preparing) _ (prepared preparing) _ told)) refl refl
-    ∙ sym (by-rules preparing _ told)
+    ∙ sym (by-rules preparing _ told))
 
 enum-told : tie.Need-enum-told
 enum-told c = search needs
@@ -178,10 +193,11 @@ returns-5 : tie.Need-returns-5
 returns-5 c =
     let accepted = c .before .before .before .before .before .before .before .before .before .before .before in
     let s = here accepted in
-    left-same refl (ap (λ (x : Outcome). x .image) (accepted-outcome accepted))
+    whole s
+    (left-same refl (ap (λ (x : Outcome). x .image) (accepted-outcome accepted))
     (c .before .before .before .before .before .before .before .before .write-edits .ensures) (c .before .before .write-summary .ensures)
     ∙ written (aim s) (file-of s) (slot-of s) (edits-of s) (summary-of s) (answer (preparing accepted)) (accepted-answer accepted)
-    ∙ sym (by-rules (preparing accepted) Pass (accepted .enum-told .given .1))
+    ∙ sym (by-rules (preparing accepted) Pass (accepted .enum-told .given .1)))
 
 pub urddolwy-prepare-spec : {M : Type 1} → statement M
 urddolwy-prepare-spec =

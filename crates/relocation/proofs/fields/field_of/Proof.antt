@@ -35,14 +35,14 @@ enum-told c = search needs
 
 returns : tie.Need-returns
 unfolding fieldOf
-returns c = rw (← c .before .before .relocation-type .ensures, c .enum-told .given .1)
+returns c = λ l g. rw (← c .before .before .relocation-type .ensures, c .enum-told .given .1)
 
 enum-told-2 : tie.Need-enum-told-2
 enum-told-2 c = search needs
 
 returns-2 : tie.Need-returns-2
 unfolding fieldOf
-returns-2 c = rw (← c .before .before .before .relocation-type .ensures, c .enum-told2 .given .1)
+returns-2 c = λ l g. rw (← c .before .before .before .relocation-type .ensures, c .enum-told2 .given .1)
 
 width-requires : tie.Need-width-requires
 width-requires c κs = search needs
@@ -54,7 +54,7 @@ lies-within-requires c κs = search needs
 tested :
     (c : tie.After-lies-within) →
     let type = c .before .before .before .before in
-    let a = type .before .before .before .before .before .before .args in
+    let a = type .before .before .args in
     c .lies-within .result ≡ leb (a .r .«r_offset» + widthOf (type .relocation-type .result)) (a .size)
 tested c = rw (c .before .width .ensures) at (c .lies-within .ensures)
 
@@ -62,7 +62,7 @@ returns-3 : tie.Need-returns-3
 unfolding fieldOf
 returns-3 c =
     let known = c .before .before .before in
-    rw (
+    λ l g. rw (
       ← known .before .before .relocation-type .ensures,
       has-field _ _ _ _ _ (known .before .match .keys2) (known .match2 .keys2),
       refuted (tested (c .before)) (c .if1 .taken),
@@ -74,8 +74,10 @@ mul-start c = search needs
 shared-slice-read-start : tie.Need-shared-slice-read-start
 shared-slice-read-start c = search needs
 
-symbol-value-requires : tie.Need-symbol-value-requires
-symbol-value-requires c κs = search needs
+resolved-value-requires : tie.Need-resolved-value-requires
+resolved-value-requires c κs =
+    let given = c .before .before .before .before .before .before .before .before .pre .2 in
+    (given .0, given .1 .symbols)
 
 enum-known-reason : tie.Need-enum-known-reason
 enum-known-reason c = search needs
@@ -105,11 +107,11 @@ unfolding fieldOf
 returns-4 c =
     let fits = c .before .before .before .before .before in
     let known = fits .before .before .before in
-    rw (
+    λ l g. rw (
       ← known .before .before .relocation-type .ensures,
       has-field _ _ _ _ _ (known .before .match .keys2) (known .match2 .keys2),
       held (tested (fits .before)) (fits .if1 .left),
-      ← c .before .before .before .symbol-value .ensures,
+      ← c .before .before .before .resolved-value .ensures l (g .symbols),
       c .before .reason .given .1,
     )
 
@@ -120,12 +122,14 @@ returns-5 c =
     let symbol = place .before .before .before in
     let fits = symbol .before .before .before .before in
     let known = fits .before .before .before in
-    rw (
+    λ l g. rw (
       ← known .before .before .relocation-type .ensures,
       has-field _ _ _ _ _ (known .before .match .keys2) (known .match2 .keys2),
       held (tested (fits .before)) (fits .if1 .left),
-      ← symbol .before .before .symbol-value .ensures,
+      ← symbol .before .before .resolved-value .ensures l (g .symbols),
       symbol .s .given .1,
+      g .address,
+      g .places,
     )
     (c .store .ensures ∙ rw (c .before .value .ensures, place .add2 .ensures, place .before .add .ensures))
 
@@ -143,7 +147,7 @@ field-of-spec =
     returns-3
     mul-start
     shared-slice-read-start
-    symbol-value-requires
+    resolved-value-requires
     enum-known-reason
     enum-known-s
     add-requires

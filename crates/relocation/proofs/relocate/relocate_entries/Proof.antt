@@ -7,34 +7,34 @@ use lib.ListN.{length}
 use Rattle.records.specs.Limits.{placedMax}
 use Rattle.elf.specs.Layout.{relocationOf}
 use Rattle.relocation.specs.Entries.{entryCount}
-use Rattle.relocation.specs.Linking.{linking}
+use Rattle.relocation.specs.Linking.{Linking}
 use Rattle.relocation.specs.Relocating.{relocateEntries}
+use Rattle.relocation.specs.Resolved.{Given}
 use Rattle.relocation.specs.declared.cursor.Cursor.{Cursor}
-use Rattle.relocation.proofs.RelocateLaws.{no-fault, field-fits, next-entry, next-end, symbol-below, entries-turn, entries-end}
+use Rattle.relocation.proofs.RelocateLaws.{no-fault, field-fits, next-entry, next-end, entries-turn, entries-end}
 use Rattle.relocation.proofs.relocate.relocate_entries.Statement.{statement}
 use Rattle.relocation.proofs.relocate.relocate_entries.Tie as tie
 
 abbrev Inv-loop : tie.InvT-loop
-Inv-loop image₀ base count offsets limits table strings list entries section target size cursor₀ image cursor =
-    let l = linking base count offsets limits table strings list in
+Inv-loop image₀ base offsets values faults entries section target size cursor₀ image cursor =
     (cursor .entry ≤ entryCount entries)
     × (length image ≡ placedMax)
-    × (relocateEntries l target size entries section 0 (entryCount entries) image₀
+    × ((l : Linking) → Given l base offsets values faults →
+    relocateEntries l target size entries section 0 (entryCount entries) image₀
     ≡ relocateEntries l target size entries section (cursor .entry) (entryCount entries - cursor .entry) image)
 
 abbrev μ-loop : tie.MeasureT-loop
-μ-loop image₀ base count offsets limits table strings list entries section target size cursor₀ image cursor =
-    entryCount entries - cursor .entry
+μ-loop image₀ base offsets values faults entries section target size cursor₀ image cursor = entryCount entries - cursor .entry
 
 start-requires : tie.Need-start-requires Inv-loop μ-loop
 start-requires c κs = search needs
 
 loop-holds : tie.Need-loop-holds Inv-loop μ-loop
 loop-holds c =
-    let a = c .before .before .before .before .before .before .before .before in
+    let a = c .before .before .before .before in
     let first-entry : c .start .result .entry ≡ 0 = ap (λ (k : Cursor). k .entry) (c .start .ensures) in
     let all : entryCount (a .args .entries .now) - 0 ≡ entryCount (a .args .entries .now) = omega arith in
-    rw first-entry (omega arith, a .pre .0, rw all)
+    rw first-entry (omega arith, a .pre .0, λ l g. rw all)
 
 next-requires : tie.Need-next-requires Inv-loop μ-loop
 next-requires c κs = search needs
@@ -51,29 +51,26 @@ same-length c = omega arith
 returns : tie.Need-returns Inv-loop μ-loop
 returns c =
     let loop = c .before .before .before in
-    let a = loop .before .before .before .before .before .before .before .before .before .args in
+    let a = loop .before .before .before .before .before .args in
     let last = next-end (a .entries .now) (loop .loop .cursor) (sym (c .before .before .next .ensures) ∙ c .enum-told .given .1) in
-    sym (loop .loop .inv .2 ∙ entries-end _ _ _ _ _ _ _ _ last)
+    λ l g. sym (loop .loop .inv .2 l g ∙ entries-end _ _ _ _ _ _ _ _ last)
 
 -- the entry at the cursor
 found :
     (c : tie.After-known-told Inv-loop μ-loop) →
     let loop = c .before .before .before .before in
-    let entries = loop .before .before .before .before .before .before .before .before .before .args .entries .now in
+    let entries = loop .before .before .before .before .before .args .entries .now in
     let e = loop .loop .cursor .entry in
     (e < entryCount entries)
     × (c .before .r .given .0 .0 ≡ relocationOf entries (24 * e))
     × (c .before .r .given .0 .1 .0 .entry ≡ e + 1)
 found c =
     let loop = c .before .before .before .before in
-    let a = loop .before .before .before .before .before .before .before .before .before .args in
+    let a = loop .before .before .before .before .before .args in
     next-entry (a .entries .now) (loop .loop .cursor) _ _ (sym (c .before .before .before .next .ensures) ∙ c .before .r .given .1)
 
 field-of-requires : tie.Need-field-of-requires Inv-loop μ-loop
-field-of-requires c κs =
-    let known = c .before .before .before .before .before .before in
-    let start = known .before .before .before .before .before .before .before in
-    (start .pre .1, start .pre .2, start .pre .3, start .pre .4, rw (found c .1) (symbol-below (start .args .entries .now) (λ i. omega (arith, known .shared-slice-known6 .given i)) _))
+field-of-requires c κs = search needs
 
 enum-known-f : tie.Need-enum-known-f Inv-loop μ-loop
 enum-known-f c = search needs
@@ -88,16 +85,17 @@ returns-2 : tie.Need-returns-2 Inv-loop μ-loop
 returns-2 c =
     let told = c .before .before .before .before in
     let loop = told .before .before .before .before in
-    sym
-    (loop .loop .inv .2
+    λ l g. sym
+    (loop .loop .inv .2 l g
     ∙ entries-turn _ _ _ _ _ _ _ _ (found told .0)
-    ∙ rw (← found told .1, ← c .before .before .before .field-of .ensures, c .before .f .given .1))
+    ∙ rw (← found told .1, ← c .before .before .before .field-of .ensures l g, c .before .f .given .1))
 
 store-field-requires : tie.Need-store-field-requires Inv-loop μ-loop
 store-field-requires c κs =
     let loop = c .before .before .before .before .before .before .before in
-    let start = loop .before .before .before .before .before .before .before .before .before in
-    rw (c .before .before .field-of .ensures) (field-fits _ _ _ _ _ (rw (loop .loop .inv .1) (start .pre .4)))
+    let pre = loop .before .before .before .before .before .pre in
+    let inside = rw (← pre .4 .1 .places, ← loop .loop .inv .1) at (pre .2) in
+    rw (c .before .before .field-of .ensures _ (pre .4 .1)) (field-fits _ _ _ _ _ inside)
 
 loop-less : tie.Need-loop-less Inv-loop μ-loop
 loop-less c = omega (arith, found (c .before .before .before .before .before .before))
@@ -109,9 +107,9 @@ loop-again c =
     let field = c .before .before .before .before .before .field-of in (
       omega (arith, found told),
       omega arith,
-      loop .loop .inv .2
+      λ l g. loop .loop .inv .2 l g
           ∙ entries-turn _ _ _ _ _ _ _ _ (found told .0)
-          ∙ rw (found told .2, c .before .before .store-field .ensures, ← found told .1, ← field .ensures, no-fault (field .result) _ _ (c .before .before .before .before .match2 .keys2)),
+          ∙ rw (found told .2, c .before .before .store-field .ensures, ← found told .1, ← field .ensures l g, no-fault (field .result) _ _ (c .before .before .before .before .match2 .keys2)),
     )
 
 pub relocate-entries-spec : {M : Type 1} → statement M
