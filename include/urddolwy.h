@@ -1,7 +1,7 @@
 /* The C boundary of Urddolwy, a live-patch loader whose functions are proved to meet their contracts.
  *
  * Link with the archive that `rt staticlib abi` writes. Every function answers whatever bytes it is given, keeps no memory and
- * writes nothing but what it says.
+ * writes nothing but what it says. Of the host it needs memcpy, memset and 80 KiB of stack.
  *
  * An answer is 0, or a refusal in one number: its number in bits 0 to 7, the kind of its place in bits 8 to 15, and the place's
  * first and second number from bits 16 and 32 on.

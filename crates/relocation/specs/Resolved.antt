@@ -1,5 +1,5 @@
 -- A payload's symbols, each resolved once: for every number that a table in a file has room for, a value and a fault.
-use Prim.Native.Nat.{ℕ, _≤_}
+use Prim.Native.Nat.{ℕ, _+_, _/_, _≤_}
 use mathlib.Core.Path.{_≡_}
 use mathlib.Core.List.{List}
 use lib.ListN.{length}
@@ -14,7 +14,7 @@ use Rattle.relocation.specs.declared.values.SymbolValue.the-variants.{Va
 
 -- the symbols of 24 bytes in a file of the largest size, rounded up
 abbrev pub symbolsMax : ℕ
-symbolsMax = 683
+symbolsMax = fileMax / 24 + 1
 
 -- the value, 0 where there is none
 abbrev pub valueIn : SymbolValue → ℕ

@@ -1,4 +1,4 @@
-//! Compares the library with the second loader: named rows, objects of the GNU tools, generated groups.
+//! Compares the library with the second loader: the stack of a call, named rows, objects of the GNU tools, generated groups.
 //!
 //!   differential [--cases N] [--seed S] [--work FOLDER] [--verbose]
 //!
@@ -11,6 +11,7 @@ mod compare;
 mod groups;
 mod report;
 mod rows;
+mod stack;
 mod tools;
 
 use std::path::PathBuf;
@@ -64,6 +65,7 @@ fn main() -> ExitCode {
     std::panic::set_hook(Box::new(|_| ()));
     println!("seed {:#018x}, {} generated cases", options.seed, options.cases);
     let mut report = report::Report::new(options.work.join("first-difference"));
+    stack::run(&mut report);
     rows::run(options.verbose, &mut report);
     tools::run(&options.work.join("objects"), &mut report);
     groups::run(options.seed, options.cases, &mut report);

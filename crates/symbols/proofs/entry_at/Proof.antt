@@ -1,7 +1,10 @@
 -- `entry_at` meets its contract: each answer is the one of the tests that led there.
+use mathlib.Core.Path.{_≡_}
+use mathlib.Core.Bool.{not}
 use native.Mathlib.Omega.{arith}
 use borrow.Author.Needs.{needs}
 use borrow.Author.Tests.{le-leb, lt-leb}
+use Rattle.words.specs.Name.{isFound}
 use Rattle.symbols.specs.SymbolList.{wholeAt, entryAt, entryIf}
 use Rattle.symbols.proofs.Laws.{Read, read-broken, read-whole}
 use Rattle.symbols.proofs.entry_at.Statement.{statement}
@@ -59,41 +62,31 @@ part-find-zero-end c = omega (arith, read (c .before .before) .inside)
 find-zero-requires : tie.Need-find-zero-requires
 find-zero-requires c κs = search needs
 
+-- with a name of a right length it is an entry where no zero byte is found
+zero-decides :
+    (c : tie.After-find-zero) →
+    let a = c .before .before .before .before .before .before .before .before .before .args in
+    entryAt (a .list .now) (a .at) ≡ not (isFound (c .find-zero .result))
+unfolding entryAt
+zero-decides c =
+    let e = c .before .before in
+    let r = read (e .before .before) in
+    let found = rw (r .name) at (c .find-zero .ensures) in
+    rw (r .holds, r .long, le-leb _ _ (e .before .if1 .left), le-leb _ _ (e .if2 .left), ← found)
+
 enum-told-2 : tie.Need-enum-told-2
 enum-told-2 c = search needs
 
 returns-4 : tie.Need-returns-4
-unfolding entryAt entryIf
-returns-4 c =
-    let e = c .before .before .before .before in
-    let r = read (e .before .before) in
-    let found = rw (r .name) at (c .before .before .find-zero .ensures) in
-    rw (
-      r .holds,
-      r .long,
-      le-leb _ _ (e .before .if1 .left),
-      le-leb _ _ (e .if2 .left),
-      ← found,
-      c .enum-told2 .given .1,
-    )
+unfolding entryIf
+returns-4 c = rw (zero-decides (c .before .before), c .enum-told2 .given .1)
 
 enum-told-3 : tie.Need-enum-told-3
 enum-told-3 c = search needs
 
 returns-5 : tie.Need-returns-5
-unfolding entryAt entryIf
-returns-5 c =
-    let e = c .before .before .before .before in
-    let r = read (e .before .before) in
-    let found = rw (r .name) at (c .before .before .find-zero .ensures) in
-    rw (
-      r .holds,
-      r .long,
-      le-leb _ _ (e .before .if1 .left),
-      le-leb _ _ (e .if2 .left),
-      ← found,
-      c .enum-told3 .given .1,
-    )
+unfolding entryIf
+returns-5 c = rw (zero-decides (c .before .before), c .enum-told3 .given .1, read (c .before .before .before .before .before .before) .long)
 
 pub entry-at-spec : {M : Type 1} → statement M
 entry-at-spec =

@@ -1,10 +1,30 @@
--- `kind_named` meets its contract.
+-- `kind_named` meets its contract: after each name that it is not, the definition from the next one on is left.
+use mathlib.Core.Path.{_≡_}
+use mathlib.Core.Bool.{cond, _&&_}
 use borrow.Author.Needs.{needs}
 use borrow.Author.Tests.{eq-eqb, ne-eqb}
+use Rattle.words.specs.Order.{equal}
+use Rattle.words.specs.Text.{ascii}
 use Rattle.words.proofs.Tests.{held, refuted}
-use Rattle.object.specs.Kinds.{kindNamed}
+use Rattle.object.specs.Kinds.{isAllocated, hasType, noteKind, allocatedKind, plainKind, kindNamed}
+use Rattle.object.specs.declared.kinds.Kind.{Kind}
+use Rattle.object.specs.declared.kinds.Kind.the-variants.{Records, Depends, BuildId, Unknown}
 use Rattle.object.proofs.kinds.kind_named.Statement.{statement}
 use Rattle.object.proofs.kinds.kind_named.Tie as tie
+
+-- the kind of the section that is passed, and what the definition says from a test on
+module _ (s : tie.Start) where
+  abbrev kind : Kind
+  kind = kindNamed (s .args .h) (s .args .name .now)
+
+  abbrev by-flag : Kind
+  by-flag = cond (isAllocated (s .args .h)) (allocatedKind (s .args .h) (s .args .name .now)) (plainKind (s .args .h) (s .args .name .now))
+
+  abbrev by-build-id : Kind
+  by-build-id = cond (equal (s .args .name .now) (ascii ".note.gnu.build-id")) (noteKind (s .args .h) BuildId) by-flag
+
+  abbrev by-depends : Kind
+  by-depends = cond (equal (s .args .name .now) (ascii ".livepatch.depends")) (noteKind (s .args .h) Depends) by-build-id
 
 slice-aggregate-same : tie.Need-slice-aggregate-same
 slice-aggregate-same c = search needs
@@ -12,38 +32,28 @@ slice-aggregate-same c = search needs
 same-requires : tie.Need-same-requires
 same-requires c κs = search needs
 
+is-records : (c : tie.Then1) → let s = c .before .before .before .before in kind s ≡ cond (isAllocated (s .args .h) && hasType 1 (s .args .h)) Records Unknown
+unfolding kindNamed
+is-records c = rw (← c .before .same .ensures, c .if1 .taken)
+
 is-allocated-requires : tie.Need-is-allocated-requires
 is-allocated-requires c κs = search needs
 
 returns : tie.Need-returns
-unfolding kindNamed
-returns c =
-    let funcs = c .before .before in
-    rw (← funcs .before .same .ensures, funcs .if1 .taken, refuted (c .before .is-allocated .ensures) (c .if2 .taken))
+returns c = rw (is-records (c .before .before), refuted (c .before .is-allocated .ensures) (c .if2 .taken))
+
+allocated-records : (c : tie.Else2) → let s = c .before .before .before .before .before .before in kind s ≡ cond (hasType 1 (s .args .h)) Records Unknown
+allocated-records c = rw (is-records (c .before .before), held (c .before .is-allocated .ensures) (c .if2 .left))
 
 returns-2 : tie.Need-returns-2
-unfolding kindNamed
-returns-2 c =
-    let allocated = c .before .before in
-    let funcs = allocated .before .before in
-    rw (
-      ← funcs .before .same .ensures,
-      funcs .if1 .taken,
-      held (allocated .before .is-allocated .ensures) (allocated .if2 .left),
-      ne-eqb _ _ (c .if3 .taken),
-    )
+returns-2 c = rw (allocated-records (c .before .before), ne-eqb _ _ (c .if3 .taken))
 
 returns-3 : tie.Need-returns-3
+returns-3 c = rw (allocated-records (c .before .before), eq-eqb _ _ (c .if3 .left))
+
+not-records : (c : tie.Else1) → let s = c .before .before .before .before in kind s ≡ by-depends s
 unfolding kindNamed
-returns-3 c =
-    let allocated = c .before .before in
-    let funcs = allocated .before .before in
-    rw (
-      ← funcs .before .same .ensures,
-      funcs .if1 .taken,
-      held (allocated .before .is-allocated .ensures) (allocated .if2 .left),
-      eq-eqb _ _ (c .if3 .left),
-    )
+not-records c = rw (← c .before .same .ensures, c .if1 .left)
 
 slice-aggregate-same-2 : tie.Need-slice-aggregate-same-2
 slice-aggregate-same-2 c = search needs
@@ -55,17 +65,10 @@ note-kind-requires : tie.Need-note-kind-requires
 note-kind-requires c κs = search needs
 
 returns-4 : tie.Need-returns-4
-unfolding kindNamed
-returns-4 c =
-    let depends = c .before in
-    let no-funcs = depends .before .before .before in
-    rw (
-      ← no-funcs .before .same .ensures,
-      no-funcs .if1 .left,
-      ← depends .before .same2 .ensures,
-      depends .if4 .taken,
-    )
-    (c .note-kind .ensures)
+returns-4 c = rw (not-records (c .before .before .before .before), ← c .before .before .same2 .ensures, c .before .if4 .taken) (c .note-kind .ensures)
+
+not-depends : (c : tie.Else4) → let s = c .before .before .before .before .before .before .before in kind s ≡ by-build-id s
+not-depends c = rw (not-records (c .before .before .before), ← c .before .same2 .ensures, c .if4 .left)
 
 slice-aggregate-same-3 : tie.Need-slice-aggregate-same-3
 slice-aggregate-same-3 c = search needs
@@ -77,20 +80,10 @@ note-kind-requires-2 : tie.Need-note-kind-requires-2
 note-kind-requires-2 c κs = search needs
 
 returns-5 : tie.Need-returns-5
-unfolding kindNamed
-returns-5 c =
-    let build-id = c .before in
-    let no-depends = build-id .before .before .before in
-    let no-funcs = no-depends .before .before .before in
-    rw (
-      ← no-funcs .before .same .ensures,
-      no-funcs .if1 .left,
-      ← no-depends .before .same2 .ensures,
-      no-depends .if4 .left,
-      ← build-id .before .same3 .ensures,
-      build-id .if5 .taken,
-    )
-    (c .note-kind2 .ensures)
+returns-5 c = rw (not-depends (c .before .before .before .before), ← c .before .before .same3 .ensures, c .before .if5 .taken) (c .note-kind2 .ensures)
+
+not-build-id : (c : tie.Else5) → let s = c .before .before .before .before .before .before .before .before .before .before in kind s ≡ by-flag s
+not-build-id c = rw (not-depends (c .before .before .before), ← c .before .same3 .ensures, c .if5 .left)
 
 is-allocated-requires-2 : tie.Need-is-allocated-requires-2
 is-allocated-requires-2 c κs = search needs
@@ -99,43 +92,13 @@ allocated-kind-requires : tie.Need-allocated-kind-requires
 allocated-kind-requires c κs = search needs
 
 returns-6 : tie.Need-returns-6
-unfolding kindNamed
-returns-6 c =
-    let no-build-id = c .before .before .before in
-    let no-depends = no-build-id .before .before .before in
-    let no-funcs = no-depends .before .before .before in
-    rw (
-      ← no-funcs .before .same .ensures,
-      no-funcs .if1 .left,
-      ← no-depends .before .same2 .ensures,
-      no-depends .if4 .left,
-      ← no-build-id .before .same3 .ensures,
-      no-build-id .if5 .left,
-      ← c .before .before .is-allocated2 .ensures,
-      c .before .if6 .taken,
-    )
-    (c .allocated-kind .ensures)
+returns-6 c = rw (not-build-id (c .before .before .before), ← c .before .before .is-allocated2 .ensures, c .before .if6 .taken) (c .allocated-kind .ensures)
 
 plain-kind-requires : tie.Need-plain-kind-requires
 plain-kind-requires c κs = search needs
 
 returns-7 : tie.Need-returns-7
-unfolding kindNamed
-returns-7 c =
-    let no-build-id = c .before .before .before in
-    let no-depends = no-build-id .before .before .before in
-    let no-funcs = no-depends .before .before .before in
-    rw (
-      ← no-funcs .before .same .ensures,
-      no-funcs .if1 .left,
-      ← no-depends .before .same2 .ensures,
-      no-depends .if4 .left,
-      ← no-build-id .before .same3 .ensures,
-      no-build-id .if5 .left,
-      ← c .before .before .is-allocated2 .ensures,
-      c .before .if6 .left,
-    )
-    (c .plain-kind .ensures)
+returns-7 c = rw (not-build-id (c .before .before .before), ← c .before .before .is-allocated2 .ensures, c .before .if6 .left) (c .plain-kind .ensures)
 
 pub kind-named-spec : {M : Type 1} → statement M
 kind-named-spec =

@@ -1,12 +1,41 @@
--- `check_counts` meets its contract: each count and each header is asked in the order of the rules. `at1` to `at5` are the places
--- where the tests passed.
+-- `check_counts` meets its contract: each count and each header is asked in the order of the rules, and after each that passes the
+-- rules from the next one on are left.
+use mathlib.Core.Path.{_≡_}
 use native.Mathlib.Omega.{arith}
+use lib.Dec.{eqb}
 use borrow.Author.Needs.{needs}
-use Rattle.payload.specs.Counts.{countRules}
-use Rattle.object.specs.Sections.{noEntry}
+use Rattle.records.specs.Verdict.{must, _then_}
+use Rattle.records.specs.declared.refusal.Reason.the-variants.{Invalid}
+use Rattle.records.specs.declared.refusal.Place.the-variants.{Nowhere, Section}
+use Rattle.records.specs.declared.refusal.Verdict.{Verdict}
+use Rattle.object.specs.Sections.{noEntry, sectionIn}
+use Rattle.object.specs.declared.kinds.Kind.{Kind}
+use Rattle.object.specs.declared.kinds.Kind.the-variants.{Symbols, Records, Depends, BuildId}
+use Rattle.payload.specs.Counts.{countOf, indexOf, symbolTableOk, recordsSizeOk, countRules}
 use Rattle.words.proofs.Tests.{held, refuted, equals, differs}
 use Rattle.payload.proofs.counts.check_counts.Statement.{statement}
 use Rattle.payload.proofs.counts.check_counts.Tie as tie
+
+-- the rules of the table that is passed
+module _ (s : tie.Start) where
+  abbrev all-rules : Verdict
+  all-rules = countRules (s .args .t1) (s .args .count)
+
+  abbrev one-of : Kind → Verdict
+  one-of kind = must (eqb (countOf (s .args .t1) (s .args .count) kind) 1) Invalid Nowhere
+
+  abbrev right-header : Verdict
+  right-header =
+      let i = indexOf (s .args .t1) (s .args .count) Symbols in
+      must (symbolTableOk (s .args .t1) (s .args .count) (sectionIn (s .args .t1) i .header)) Invalid (Section i)
+
+  abbrev right-size : Verdict
+  right-size =
+      let i = indexOf (s .args .t1) (s .args .count) Records in
+      must (recordsSizeOk (sectionIn (s .args .t1) i .header)) Invalid (Section i)
+
+  abbrev three-names : Verdict
+  three-names = one-of Records then one-of Depends then one-of BuildId then right-size
 
 count-of-requires : tie.Need-count-of-requires
 count-of-requires c κs = search needs
@@ -14,6 +43,10 @@ count-of-requires c κs = search needs
 returns : tie.Need-returns
 unfolding countRules
 returns c = rw (differs (c .before .count-of .ensures) (c .if1 .taken))
+
+symbols-counted : (c : tie.Else1) → let s = c .before .before in all-rules s ≡ (right-header s then three-names s)
+unfolding countRules
+symbols-counted c = rw (equals (c .before .count-of .ensures) (c .if1 .left))
 
 index-of-requires : tie.Need-index-of-requires
 index-of-requires c κs = search needs
@@ -34,66 +67,46 @@ refuse-at-requires : tie.Need-refuse-at-requires
 refuse-at-requires c κs = search needs
 
 returns-2 : tie.Need-returns-2
-unfolding countRules noEntry
+unfolding noEntry
 returns-2 c =
-    let at1 = c .before .before .before .before .before in
     rw (
-      equals (at1 .before .count-of .ensures) (at1 .if1 .left),
+      symbols-counted (c .before .before .before .before .before),
       ← c .before .before .before .before .index-of .ensures .0,
       refuted (c .before .before .symbol-table-ok .ensures) (c .before .if2 .taken),
       c .refuse-at .ensures,
     )
 
+header-passed : (c : tie.Else2) → let s = c .before .before .before .before .before .before in all-rules s ≡ three-names s
+unfolding noEntry
+header-passed c =
+    rw (symbols-counted (c .before .before .before .before), ← c .before .before .before .index-of .ensures .0, held (c .before .symbol-table-ok .ensures) (c .if2 .left))
+
 count-of-requires-2 : tie.Need-count-of-requires-2
 count-of-requires-2 c κs = search needs
 
 returns-3 : tie.Need-returns-3
-unfolding countRules noEntry
-returns-3 c =
-    let at2 = c .before .before in
-    let at1 = at2 .before .before .before .before in
-    rw (
-      equals (at1 .before .count-of .ensures) (at1 .if1 .left),
-      ← at2 .before .before .before .index-of .ensures .0,
-      held (at2 .before .symbol-table-ok .ensures) (at2 .if2 .left),
-      differs (c .before .count-of2 .ensures) (c .if3 .taken),
-    )
+returns-3 c = rw (header-passed (c .before .before), differs (c .before .count-of2 .ensures) (c .if3 .taken))
+
+records-counted : (c : tie.Else3) → let s = c .before .before .before .before .before .before .before .before in all-rules s ≡ (one-of s Depends then one-of s BuildId then right-size s)
+records-counted c = rw (header-passed (c .before .before), equals (c .before .count-of2 .ensures) (c .if3 .left))
 
 count-of-requires-3 : tie.Need-count-of-requires-3
 count-of-requires-3 c κs = search needs
 
 returns-4 : tie.Need-returns-4
-unfolding countRules noEntry
-returns-4 c =
-    let at3 = c .before .before in
-    let at2 = at3 .before .before in
-    let at1 = at2 .before .before .before .before in
-    rw (
-      equals (at1 .before .count-of .ensures) (at1 .if1 .left),
-      ← at2 .before .before .before .index-of .ensures .0,
-      held (at2 .before .symbol-table-ok .ensures) (at2 .if2 .left),
-      equals (at3 .before .count-of2 .ensures) (at3 .if3 .left),
-      differs (c .before .count-of3 .ensures) (c .if4 .taken),
-    )
+returns-4 c = rw (records-counted (c .before .before), differs (c .before .count-of3 .ensures) (c .if4 .taken))
+
+depends-counted : (c : tie.Else4) → let s = c .before .before .before .before .before .before .before .before .before .before in all-rules s ≡ (one-of s BuildId then right-size s)
+depends-counted c = rw (records-counted (c .before .before), equals (c .before .count-of3 .ensures) (c .if4 .left))
 
 count-of-requires-4 : tie.Need-count-of-requires-4
 count-of-requires-4 c κs = search needs
 
 returns-5 : tie.Need-returns-5
-unfolding countRules noEntry
-returns-5 c =
-    let at4 = c .before .before in
-    let at3 = at4 .before .before in
-    let at2 = at3 .before .before in
-    let at1 = at2 .before .before .before .before in
-    rw (
-      equals (at1 .before .count-of .ensures) (at1 .if1 .left),
-      ← at2 .before .before .before .index-of .ensures .0,
-      held (at2 .before .symbol-table-ok .ensures) (at2 .if2 .left),
-      equals (at3 .before .count-of2 .ensures) (at3 .if3 .left),
-      equals (at4 .before .count-of3 .ensures) (at4 .if4 .left),
-      differs (c .before .count-of4 .ensures) (c .if5 .taken),
-    )
+returns-5 c = rw (depends-counted (c .before .before), differs (c .before .count-of4 .ensures) (c .if5 .taken))
+
+build-id-counted : (c : tie.Else5) → let s = c .before .before .before .before .before .before .before .before .before .before .before .before in all-rules s ≡ right-size s
+build-id-counted c = rw (depends-counted (c .before .before), equals (c .before .count-of4 .ensures) (c .if5 .left))
 
 index-of-requires-2 : tie.Need-index-of-requires-2
 index-of-requires-2 c κs = search needs
@@ -114,43 +127,19 @@ refuse-at-requires-2 : tie.Need-refuse-at-requires-2
 refuse-at-requires-2 c κs = search needs
 
 returns-6 : tie.Need-returns-6
-unfolding countRules noEntry
+unfolding noEntry
 returns-6 c =
-    let at5 = c .before .before .before .before .before in
-    let at4 = at5 .before .before in
-    let at3 = at4 .before .before in
-    let at2 = at3 .before .before in
-    let at1 = at2 .before .before .before .before in
     rw (
-      equals (at1 .before .count-of .ensures) (at1 .if1 .left),
-      ← at2 .before .before .before .index-of .ensures .0,
-      held (at2 .before .symbol-table-ok .ensures) (at2 .if2 .left),
-      equals (at3 .before .count-of2 .ensures) (at3 .if3 .left),
-      equals (at4 .before .count-of3 .ensures) (at4 .if4 .left),
-      equals (at5 .before .count-of4 .ensures) (at5 .if5 .left),
+      build-id-counted (c .before .before .before .before .before),
       ← c .before .before .before .before .index-of2 .ensures .0,
       refuted (c .before .before .records-size-ok .ensures) (c .before .if6 .taken),
       c .refuse-at2 .ensures,
     )
 
 returns-7 : tie.Need-returns-7
-unfolding countRules noEntry
+unfolding noEntry
 returns-7 c =
-    let at5 = c .before .before .before .before in
-    let at4 = at5 .before .before in
-    let at3 = at4 .before .before in
-    let at2 = at3 .before .before in
-    let at1 = at2 .before .before .before .before in
-    rw (
-      equals (at1 .before .count-of .ensures) (at1 .if1 .left),
-      ← at2 .before .before .before .index-of .ensures .0,
-      held (at2 .before .symbol-table-ok .ensures) (at2 .if2 .left),
-      equals (at3 .before .count-of2 .ensures) (at3 .if3 .left),
-      equals (at4 .before .count-of3 .ensures) (at4 .if4 .left),
-      equals (at5 .before .count-of4 .ensures) (at5 .if5 .left),
-      ← c .before .before .before .index-of2 .ensures .0,
-      held (c .before .records-size-ok .ensures) (c .if6 .left),
-    )
+    rw (build-id-counted (c .before .before .before .before), ← c .before .before .before .index-of2 .ensures .0, held (c .before .records-size-ok .ensures) (c .if6 .left))
 
 pub check-counts-spec : {M : Type 1} → statement M
 check-counts-spec =
