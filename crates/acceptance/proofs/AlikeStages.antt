@@ -13,7 +13,7 @@ use Rattle.object.specs.declared.sections.SectionEntry.{SectionEntry}
 use Rattle.payload.specs.Notes.{isNoteKind, one-note, noteRules}
 use Rattle.placement.specs.Placement.{offsetOf, hasContents, imageBefore}
 use Rattle.placement.proofs.PlacementLaws.{laid, image-begin, image-next}
-use Rattle.relocation.specs.Linking.{Linking}
+use Rattle.linking.specs.Linking.{Linking}
 use Rattle.relocation.specs.Relocating.{Relocated, relocated, goOn, isRelocating, relocateSection, relocateFrom, relocateAll}
 use Rattle.acceptance.specs.Consulted.{isRead}
 use Rattle.acceptance.proofs.Parts.{cond-alike, scan-alike}

@@ -10,8 +10,8 @@ use Rattle.records.specs.declared.refusal.Reason.{Reason}
 use Rattle.records.specs.declared.refusal.Place.{Place}
 use Rattle.records.specs.declared.refusal.Verdict.{Verdict}
 use Rattle.records.specs.declared.refusal.Verdict.the-variants.{Pass, Refuse}
-use Rattle.relocation.specs.declared.values.SymbolValue.{SymbolValue}
-use Rattle.relocation.specs.declared.values.SymbolValue.the-variants.{Value, Refused}
+use Rattle.linking.specs.declared.values.SymbolValue.{SymbolValue}
+use Rattle.linking.specs.declared.values.SymbolValue.the-variants.{Value, Refused}
 use Rattle.functions.specs.declared.function.OldAddress as old
 use Rattle.acceptance.specs.Broken.{Broken, Exact}
 use Rattle.acceptance.specs.Keeps.{Keeps}

@@ -12,12 +12,12 @@ use Rattle.machine.specs.declared.RelocationType.{RelocationType}
 use Rattle.machine.specs.declared.RelocationType.the-variants.{Nothing, Absolute, Relative, Unknown}
 use Rattle.object.specs.Sections.{sectionCount, sections}
 use Rattle.relocation.specs.Entries.{entryCount}
-use Rattle.relocation.specs.Linking.{Linking}
+use Rattle.linking.specs.Linking.{Linking}
 use Rattle.relocation.specs.Relocating.{withSymbol, inField, byType, fieldOf, faultOf, isRelocating}
 use Rattle.relocation.specs.declared.fields.Field.{Field}
 use Rattle.relocation.specs.declared.fields.Field.the-variants.{Skip, Fault}
-use Rattle.relocation.specs.declared.values.SymbolValue.{SymbolValue}
-use Rattle.relocation.specs.declared.values.SymbolValue.the-variants.{Value, Refused}
+use Rattle.linking.specs.declared.values.SymbolValue.{SymbolValue}
+use Rattle.linking.specs.declared.values.SymbolValue.the-variants.{Value, Refused}
 use Rattle.acceptance.specs.Broken.Broken.{relocation-types, relocation-fields, relocation-symbols, relocation-ranges}
 use Rattle.acceptance.specs.Keeps.{KeepsRelocations}
 use Rattle.acceptance.specs.Rules.{section, contentsAt, Made, relocationAt, typeAt, targetAt, isKnown, isStored, symbolAt, resultAt}

@@ -11,7 +11,7 @@ use Rattle.elf.specs.Layout.{relocationOf}
 use Rattle.object.specs.Sections.{sectionCount, sections}
 use Rattle.placement.specs.Placement.{imageBefore}
 use Rattle.relocation.specs.Entries.{entryCount}
-use Rattle.relocation.specs.Linking.{Linking}
+use Rattle.linking.specs.Linking.{Linking}
 use Rattle.relocation.specs.Relocating.{
   Relocated,
   relocated,

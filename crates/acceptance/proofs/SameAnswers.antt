@@ -25,7 +25,7 @@ use Rattle.payload.specs.Reading.{tableRules, readRules, idOf}
 use Rattle.payload.proofs.CountLaws.{CountsPass, counts-pass, index-found}
 use Rattle.payload.proofs.ReadingLaws.{table-passes}
 use Rattle.placement.specs.Placement.{offsetOf, limitOf, imageBefore}
-use Rattle.relocation.specs.Linking.{Linking}
+use Rattle.linking.specs.Linking.{Linking}
 use Rattle.relocation.specs.Relocating.{Relocated, linkingOf, relocateAll}
 use Rattle.acceptance.specs.Consulted.{isRead, Alike}
 use Rattle.acceptance.specs.Stages.{Target, relocatedOf, buildRules, payloadRules}

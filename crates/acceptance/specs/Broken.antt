@@ -24,7 +24,7 @@ use Rattle.payload.specs.Counts.{countOf, indexOf, symbolTableOk, recordsSizeOk
 use Rattle.payload.specs.Notes.{noteOk, isNoteKind}
 use Rattle.payload.specs.RelocationHeaders.{relocationHeaderOk}
 use Rattle.placement.specs.Placement.{endBefore}
-use Rattle.relocation.specs.declared.values.SymbolValue.the-variants.{Value, Refused}
+use Rattle.linking.specs.declared.values.SymbolValue.the-variants.{Value, Refused}
 use Rattle.functions.specs.Edits.{formOk, jumpOk, fillOk, inText}
 use Rattle.functions.specs.Functions.{editsOf}
 use Rattle.functions.specs.Pairs.{editIn, touch}

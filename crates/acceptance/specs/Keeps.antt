@@ -17,7 +17,7 @@ use Rattle.object.specs.declared.kinds.Kind.the-variants.{Unnamed, Records, Dep
 use Rattle.payload.specs.Counts.{countOf, indexOf, symbolTableOk, recordsSizeOk}
 use Rattle.payload.specs.Notes.{noteOk, isNoteKind}
 use Rattle.payload.specs.RelocationHeaders.{relocationHeaderOk}
-use Rattle.relocation.specs.declared.values.SymbolValue.the-variants.{Value}
+use Rattle.linking.specs.declared.values.SymbolValue.the-variants.{Value}
 use Rattle.functions.specs.Edits.{formOk, jumpOk, fillOk, inText}
 use Rattle.functions.specs.Functions.{editsOf}
 use Rattle.functions.specs.Pairs.{editIn, touch}

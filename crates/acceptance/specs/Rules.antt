@@ -14,8 +14,8 @@ use Rattle.object.specs.Sections.{sectionCount, sections, sectionIn, contentsOf
 use Rattle.object.specs.declared.sections.SectionEntry.{SectionEntry}
 use Rattle.relocation.specs.Entries.{entryCount}
 use Rattle.relocation.specs.Relocating.{fieldAddress, isRelocating}
-use Rattle.relocation.specs.Symbols.{symbolValue}
-use Rattle.relocation.specs.declared.values.SymbolValue.{SymbolValue}
+use Rattle.linking.specs.Symbols.{symbolValue}
+use Rattle.linking.specs.declared.values.SymbolValue.{SymbolValue}
 use Rattle.functions.specs.Records.{recordOf, oldAddressOf}
 use Rattle.functions.specs.declared.function.FunctionRecord.{FunctionRecord}
 use Rattle.functions.specs.declared.function.OldAddress.{OldAddress}

@@ -12,7 +12,7 @@ use Rattle.payload.specs.Counts.{indexOf}
 use Rattle.payload.specs.Reading.{readRules}
 use Rattle.placement.specs.Placement.{endBefore, offsetOf, limitOf, imageBefore, placementRules}
 use Rattle.relocation.specs.Relocating.{Relocated, linkingOf, relocateAll}
-use Rattle.relocation.specs.Linking.{Linking}
+use Rattle.linking.specs.Linking.{Linking}
 use Rattle.functions.specs.Functions.{Patching, patching, functionRules}
 
 -- what a payload is prepared for: the text's address and length, the slot's address, the symbol list

@@ -11,12 +11,12 @@ use Rattle.records.specs.declared.refusal.Reason.the-variants.{Invalid, OutOfRa
 use Rattle.machine.specs.Relocations.{typeOf, widthOf, inRange}
 use Rattle.machine.specs.declared.RelocationType.{RelocationType}
 use Rattle.machine.specs.declared.RelocationType.the-variants.{Nothing, Absolute, Relative, Unknown}
-use Rattle.relocation.specs.Linking.{Linking}
+use Rattle.linking.specs.Linking.{Linking}
 use Rattle.relocation.specs.Relocating.{storedAt, withSymbol, inField, byType, fieldOf}
-use Rattle.relocation.specs.Symbols.{symbolValue}
+use Rattle.linking.specs.Symbols.{symbolValue}
 use Rattle.relocation.specs.declared.fields.Field.the-variants.{Store, Fault}
-use Rattle.relocation.specs.declared.values.SymbolValue.{SymbolValue}
-use Rattle.relocation.specs.declared.values.SymbolValue.the-variants.{Value, Refused}
+use Rattle.linking.specs.declared.values.SymbolValue.{SymbolValue}
+use Rattle.linking.specs.declared.values.SymbolValue.the-variants.{Value, Refused}
 
 -- where something is stored, it has the place given and the type's width
 stored-there :

@@ -1,3 +1,2 @@
 pub mod FieldLaws
 pub mod RelocateLaws
-pub mod ResolvedLaws

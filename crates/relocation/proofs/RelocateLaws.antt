@@ -25,7 +25,7 @@ use Rattle.object.specs.Sections.{sectionIn, contentsOf}
 use Rattle.object.specs.declared.kinds.Kind.the-variants.{Relocations}
 use Rattle.object.specs.declared.sections.SectionEntry.{SectionEntry}
 use Rattle.relocation.specs.Entries.{entryCount, nextOf}
-use Rattle.relocation.specs.Linking.{Linking}
+use Rattle.linking.specs.Linking.{Linking}
 use Rattle.relocation.specs.Relocating.{
   Relocated,
   relocated,

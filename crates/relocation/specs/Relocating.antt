@@ -24,10 +24,10 @@ use Rattle.object.specs.Sections.{sectionIn, contentsOf}
 use Rattle.object.specs.declared.kinds.Kind.the-variants.{Relocations, Ignored}
 use Rattle.object.specs.declared.sections.SectionEntry.{SectionEntry}
 use Rattle.relocation.specs.Entries.{entryCount}
-use Rattle.relocation.specs.Linking.{Linking, sectionAddress, linking}
-use Rattle.relocation.specs.Symbols.{symbolValue}
-use Rattle.relocation.specs.declared.values.SymbolValue.{SymbolValue}
-use Rattle.relocation.specs.declared.values.SymbolValue.the-variants.{Value, Refused}
+use Rattle.linking.specs.Linking.{Linking, sectionAddress, linking}
+use Rattle.linking.specs.Symbols.{symbolValue}
+use Rattle.linking.specs.declared.values.SymbolValue.{SymbolValue}
+use Rattle.linking.specs.declared.values.SymbolValue.the-variants.{Value, Refused}
 use Rattle.relocation.specs.declared.fields.Field.{Field}
 use Rattle.relocation.specs.declared.fields.Field.the-variants.{Store, Skip, Fault}
 

@@ -3,13 +3,13 @@ ghost use mathlib.Core.Path.{_≡_};
 ghost use Prim.Native.Nat.{_+_, _≤_, _<_};
 ghost use lib.ListN.{length, getD};
 ghost use Rattle.records.specs.Limits.{placedMax};
-ghost use Rattle.relocation.specs.Linking.{Linking};
+ghost use Rattle.linking.specs.Linking.{Linking};
 ghost use Rattle.relocation.specs.Relocating.{storedAt, fieldOf};
-ghost use Rattle.relocation.specs.Resolved.{Given};
-use super::resolved::Resolved;
-use super::resolved::{self};
-use super::values::SymbolValue;
+ghost use Rattle.linking.specs.Resolved.{Given};
 use elf::Relocation;
+use linking::resolved::Resolved;
+use linking::resolved::{self};
+use linking::values::SymbolValue;
 use machine::RelocationType;
 use records::refusal::Reason;
 

@@ -13,7 +13,7 @@ use Rattle.machine.proofs.Arms.{In}
 use Rattle.machine.specs.Relocations.{widthOf}
 use Rattle.machine.specs.declared.RelocationType.{RelocationType}
 use Rattle.machine.specs.declared.RelocationType.the-variants.{Nothing, Absolute, Relative, Unknown}
-use Rattle.relocation.specs.Linking.{Linking}
+use Rattle.linking.specs.Linking.{Linking}
 use Rattle.relocation.specs.Relocating.{inField, byType, fieldOf}
 use Rattle.relocation.proofs.fields.field_of.Statement.{statement}
 use Rattle.relocation.proofs.fields.field_of.Tie as tie

@@ -6,7 +6,7 @@ use native.Mathlib.Omega.{arith}
 use borrow.Author.Needs.{needs}
 use lib.ListN.{length}
 use Rattle.relocation.specs.Relocating.{linkingOf, relocateFrom, relocateAll}
-use Rattle.relocation.specs.Resolved.{Given}
+use Rattle.linking.specs.Resolved.{Given}
 use Rattle.relocation.proofs.RelocateLaws.{contents-short, sections-turn, sections-end}
 use Rattle.relocation.proofs.relocate.relocate.Statement.{statement}
 use Rattle.relocation.proofs.relocate.relocate.Tie as tie

@@ -7,9 +7,9 @@ use lib.ListN.{length}
 use Rattle.records.specs.Limits.{placedMax}
 use Rattle.elf.specs.Layout.{relocationOf}
 use Rattle.relocation.specs.Entries.{entryCount}
-use Rattle.relocation.specs.Linking.{Linking}
+use Rattle.linking.specs.Linking.{Linking}
 use Rattle.relocation.specs.Relocating.{relocateEntries}
-use Rattle.relocation.specs.Resolved.{Given}
+use Rattle.linking.specs.Resolved.{Given}
 use Rattle.relocation.specs.declared.cursor.Cursor.{Cursor}
 use Rattle.relocation.proofs.RelocateLaws.{no-fault, field-fits, next-entry, next-end, entries-turn, entries-end}
 use Rattle.relocation.proofs.relocate.relocate_entries.Statement.{statement}

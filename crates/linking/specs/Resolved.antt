@@ -6,11 +6,11 @@ use lib.ListN.{length}
 use Rattle.words.specs.Scan.{each}
 use Rattle.records.specs.Limits.{fileMax}
 use Rattle.records.specs.Refusal.{numberOf}
-use Rattle.relocation.specs.Linking.{Linking}
-use Rattle.relocation.specs.Symbols.{symbolValue}
-use Rattle.relocation.specs.declared.resolved.Resolved.{Resolved}
-use Rattle.relocation.specs.declared.values.SymbolValue.{SymbolValue}
-use Rattle.relocation.specs.declared.values.SymbolValue.the-variants.{Value, Refused}
+use Rattle.linking.specs.Linking.{Linking}
+use Rattle.linking.specs.Symbols.{symbolValue}
+use Rattle.linking.specs.declared.resolved.Resolved.{Resolved}
+use Rattle.linking.specs.declared.values.SymbolValue.{SymbolValue}
+use Rattle.linking.specs.declared.values.SymbolValue.the-variants.{Value, Refused}
 
 -- the symbols of 24 bytes in a file of the largest size, rounded up
 abbrev pub symbolsMax : ℕ

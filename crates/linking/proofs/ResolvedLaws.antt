@@ -16,12 +16,12 @@ use Rattle.elf.specs.declared.Symbol.{Symbol}
 use Rattle.symbols.specs.SymbolList.{lookup}
 use Rattle.symbols.specs.declared.Found.{Found}
 use Rattle.symbols.specs.declared.Found.the-variants.{Address, Nothing}
-use Rattle.relocation.specs.Linking.{Linking}
-use Rattle.relocation.specs.Resolved.{symbolsMax, valueIn, faultIn, resolved, Resolves}
-use Rattle.relocation.specs.Symbols.{addressFound, listedBy, definedIn, valueBy, symbolValue}
-use Rattle.relocation.specs.declared.resolved.Resolved.{Resolved}
-use Rattle.relocation.specs.declared.values.SymbolValue.{SymbolValue}
-use Rattle.relocation.specs.declared.values.SymbolValue.the-variants.{Value, Refused}
+use Rattle.linking.specs.Linking.{Linking}
+use Rattle.linking.specs.Resolved.{symbolsMax, valueIn, faultIn, resolved, Resolves}
+use Rattle.linking.specs.Symbols.{addressFound, listedBy, definedIn, valueBy, symbolValue}
+use Rattle.linking.specs.declared.resolved.Resolved.{Resolved}
+use Rattle.linking.specs.declared.values.SymbolValue.{SymbolValue}
+use Rattle.linking.specs.declared.values.SymbolValue.the-variants.{Value, Refused}
 
 -- an array that is filled to its end
 pub filled-whole : {A : Type 0} (f : ℕ → A) (z : A) (m : ℕ) → filled f z m m ≡ each f 0 m

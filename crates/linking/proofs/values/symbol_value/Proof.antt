@@ -10,9 +10,9 @@ use lib.ListN.{length}
 use Rattle.elf.specs.Layout.{symbolOf, symbol}
 use Rattle.elf.specs.declared.Symbol.{Symbol}
 use Rattle.elf.specs.declared.SymbolRead.the-variants.{Whole, Outside}
-use Rattle.relocation.specs.Symbols.{symbolValue}
-use Rattle.relocation.proofs.values.symbol_value.Statement.{statement}
-use Rattle.relocation.proofs.values.symbol_value.Tie as tie
+use Rattle.linking.specs.Symbols.{symbolValue}
+use Rattle.linking.proofs.values.symbol_value.Statement.{statement}
+use Rattle.linking.proofs.values.symbol_value.Tie as tie
 
 -- what a symbol that was read, or none, says of the test and of the symbol that is there
 read-outside : (t : Bool) (there : Symbol) → cond t (Whole there) Outside ≡ Outside → t ≡ false

@@ -1,9 +1,9 @@
 -- `defined_value` meets its contract.
 use borrow.Author.Needs.{needs}
 use borrow.Author.Tests.{lt-ltb, le-ltb}
-use Rattle.relocation.specs.Symbols.{definedIn}
-use Rattle.relocation.proofs.values.defined_value.Statement.{statement}
-use Rattle.relocation.proofs.values.defined_value.Tie as tie
+use Rattle.linking.specs.Symbols.{definedIn}
+use Rattle.linking.proofs.values.defined_value.Statement.{statement}
+use Rattle.linking.proofs.values.defined_value.Tie as tie
 
 returns : tie.Need-returns
 unfolding definedIn

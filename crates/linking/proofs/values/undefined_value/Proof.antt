@@ -5,8 +5,8 @@ use borrow.Author.Needs.{needs}
 use Rattle.words.specs.Splice.{part}
 use Rattle.words.proofs.Name.{FirstZero, zero-at}
 use Rattle.elf.specs.Name.{nameIn}
-use Rattle.relocation.proofs.values.undefined_value.Statement.{statement}
-use Rattle.relocation.proofs.values.undefined_value.Tie as tie
+use Rattle.linking.proofs.values.undefined_value.Statement.{statement}
+use Rattle.linking.proofs.values.undefined_value.Tie as tie
 
 name-end-requires : tie.Need-name-end-requires
 name-end-requires c κs = search needs

@@ -12,9 +12,9 @@ use Rattle.elf.specs.declared.Symbol.{Symbol}
 use Rattle.symbols.specs.SymbolList.{lookup}
 use Rattle.symbols.specs.declared.Found.{Found}
 use Rattle.symbols.specs.declared.Found.the-variants.{Address, Nothing}
-use Rattle.relocation.specs.Linking.{Linking}
-use Rattle.relocation.specs.declared.values.SymbolValue.{SymbolValue}
-use Rattle.relocation.specs.declared.values.SymbolValue.the-variants.{Value, Refused}
+use Rattle.linking.specs.Linking.{Linking}
+use Rattle.linking.specs.declared.values.SymbolValue.{SymbolValue}
+use Rattle.linking.specs.declared.values.SymbolValue.the-variants.{Value, Refused}
 
 -- "undefined means looked up by name in the list (a name with no ending zero in its table: 22; an empty one isn't in the list)"
 abbrev pub addressFound : Found → SymbolValue

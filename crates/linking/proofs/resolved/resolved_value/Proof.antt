@@ -1,9 +1,9 @@
 -- `resolved_value` meets its contract.
 use borrow.Author.Needs.{needs}
 use borrow.Author.Tests.{ne-eqb}
-use Rattle.relocation.proofs.ResolvedLaws.{told-at, told-past}
-use Rattle.relocation.proofs.resolved.resolved_value.Statement.{statement}
-use Rattle.relocation.proofs.resolved.resolved_value.Tie as tie
+use Rattle.linking.proofs.ResolvedLaws.{told-at, told-past}
+use Rattle.linking.proofs.resolved.resolved_value.Statement.{statement}
+use Rattle.linking.proofs.resolved.resolved_value.Tie as tie
 
 returns : tie.Need-returns
 returns c = λ l r. told-past l r _ (c .if1 .taken)

@@ -5,12 +5,12 @@ use native.Mathlib.Omega.{arith}
 use borrow.Author.Needs.{needs}
 use Rattle.words.specs.Scan.{filled}
 use Rattle.words.proofs.Scan.{fill-begin, fill-turn}
-use Rattle.relocation.specs.Linking.{linking}
-use Rattle.relocation.specs.Resolved.{symbolsMax, valueIn, faultIn, resolved}
-use Rattle.relocation.specs.Symbols.{symbolValue}
-use Rattle.relocation.proofs.ResolvedLaws.{filled-whole}
-use Rattle.relocation.proofs.resolved.resolve_all.Statement.{statement}
-use Rattle.relocation.proofs.resolved.resolve_all.Tie as tie
+use Rattle.linking.specs.Linking.{linking}
+use Rattle.linking.specs.Resolved.{symbolsMax, valueIn, faultIn, resolved}
+use Rattle.linking.specs.Symbols.{symbolValue}
+use Rattle.linking.proofs.ResolvedLaws.{filled-whole}
+use Rattle.linking.proofs.resolved.resolve_all.Statement.{statement}
+use Rattle.linking.proofs.resolved.resolve_all.Tie as tie
 
 abbrev Inv-loop : tie.InvT-loop
 Inv-loop base count offsets limits table strings list r₀ i₀ r i =

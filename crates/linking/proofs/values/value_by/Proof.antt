@@ -1,9 +1,9 @@
 -- `value_by` meets its contract.
 use borrow.Author.Needs.{needs}
 use borrow.Author.Tests.{eq-eqb, ne-eqb, le-leb, lt-leb}
-use Rattle.relocation.specs.Symbols.{valueBy}
-use Rattle.relocation.proofs.values.value_by.Statement.{statement}
-use Rattle.relocation.proofs.values.value_by.Tie as tie
+use Rattle.linking.specs.Symbols.{valueBy}
+use Rattle.linking.proofs.values.value_by.Statement.{statement}
+use Rattle.linking.proofs.values.value_by.Tie as tie
 
 returns : tie.Need-returns
 unfolding valueBy

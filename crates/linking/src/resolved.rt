@@ -2,9 +2,9 @@
 ghost use mathlib.Core.Path.{_≡_};
 ghost use Prim.Native.Nat.{_≤_};
 ghost use lib.ListN.{length};
-ghost use Rattle.relocation.specs.Linking.{Linking, linking};
-ghost use Rattle.relocation.specs.Resolved.{valueIn, faultIn, resolved, Resolves};
-ghost use Rattle.relocation.specs.Symbols.{symbolValue};
+ghost use Rattle.linking.specs.Linking.{Linking, linking};
+ghost use Rattle.linking.specs.Resolved.{valueIn, faultIn, resolved, Resolves};
+ghost use Rattle.linking.specs.Symbols.{symbolValue};
 use super::values::SymbolValue;
 use super::values::{self};
 use records::payload::Payload;
