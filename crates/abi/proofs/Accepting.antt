@@ -1,69 +1,32 @@
 -- `urddolwy_prepare` returns 0 exactly when the payload and all that comes with it are right.
-use Prim.Native.Nat.{ℕ, _≤_}
+use Prim.Native.Nat.{ℕ}
 use mathlib.Core.Path.{_≡_, refl, sym, ap, _∙_}
-use mathlib.Core.Bool.{Bool, true, false, _&&_, and-false, and-eq-true-iff, false≢true}
+use mathlib.Core.Bool.{Bool, true, false, and-false, false≢true}
 use mathlib.Core.List.{List}
-use native.Mathlib.Omega.{arith}
-use lib.Dec.{leb, eqb}
+use borrow.Author.Tests.{eq-eqb}
+use lib.Dec.{leb}
 use lib.ListN.{length}
-use Rattle.records.specs.Limits.{placedMax, textMax}
-use Rattle.records.specs.Refusal.{numberOf, codeOf}
+use Rattle.words.proofs.Tests.{both}
+use Rattle.records.specs.Limits.{textMax}
 use Rattle.records.specs.Verdict.{must}
-use Rattle.records.specs.declared.refusal.Reason.{Reason}
-use Rattle.records.specs.declared.refusal.Reason.the-variants.{
-  NotLoaded,
-  NotListed,
-  TooMany,
-  BadHeader,
-  NoRoom,
-  Busy,
-  Loaded,
-  Invalid,
-  WrongBase,
-  OutOfRange,
-  Unsupported,
-}
+use Rattle.records.specs.declared.refusal.Reason.the-variants.{Invalid}
 use Rattle.records.specs.declared.refusal.Place.the-variants.{Nowhere}
-use Rattle.records.specs.declared.refusal.Refusal.{Refusal}
 use Rattle.records.specs.declared.refusal.Verdict.{Verdict}
 use Rattle.records.specs.declared.refusal.Verdict.the-variants.{Pass, Refuse}
 use Rattle.records.proofs.Checks.{must-pass, then-pass}
+use Rattle.records.proofs.Numbers.{code-some}
 use Rattle.acceptance.specs.Stages.{Target, payloadRules}
 use Rattle.acceptance.proofs.Exactness.{exact}
-use Rattle.encode.specs.Encode.{editsSize}
 use Rattle.prepare.specs.Prepare.{sizesOk, prepareRules}
 use Rattle.abi.specs.Preparing.{rangesOk, buffersOk, callRules, Left, left, leftBy, callOf, Acceptable, ZeroExactly}
-
--- no refusal has the number 0
-number-some : (reason : Reason) → 2 ≤ numberOf reason
-number-some NotLoaded = omega arith
-number-some NotListed = omega arith
-number-some TooMany = omega arith
-number-some BadHeader = omega arith
-number-some NoRoom = omega arith
-number-some Busy = omega arith
-number-some Loaded = omega arith
-number-some Invalid = omega arith
-number-some WrongBase = omega arith
-number-some OutOfRange = omega arith
-number-some Unsupported = omega arith
-
-code-some : (r : Refusal) → codeOf r ≡ 0 → ⊥
-unfolding codeOf
-code-some r e = omega (arith, number-some (r .reason))
-
-both : (a b : Bool) → (a && b) ≡ true → (a ≡ true) × (b ≡ true)
-both a b = and-eq-true-iff a b .0
+use Rattle.abi.proofs.Calls.{buffers-told}
 
 module _ (t : Target) (file image edits summary : List ℕ) where
   -- the sizes that `prepare` looks at are among those that the call does
   sized : buffersOk (length image) (length edits) (length summary) ≡ true → rangesOk t ≡ true → sizesOk t image ≡ true
-  unfolding buffersOk rangesOk
-  sized buffers ranges = rw (slot-whole, by-test (leb (t .size) textMax) refl)
+  unfolding rangesOk
+  sized buffers ranges = rw (eq-eqb _ _ (buffers-told _ _ _ buffers .0), by-test (leb (t .size) textMax) refl)
     where
-      slot-whole : eqb (length image) placedMax ≡ true
-      slot-whole = both (eqb (length image) placedMax) _ (both (eqb (length image) placedMax && eqb (length edits) editsSize) _ buffers .0) .0
-
       by-test : (b : Bool) → leb (t .size) textMax ≡ b → leb (t .size) textMax ≡ true
       by-test true e = e
       by-test false e = absurd (false≢true (simp (e, and-false) at ranges))

@@ -1,12 +1,13 @@
 -- `urddolwy_prepare` by what its stages answered, and that the edits of an accepted payload fit their entries.
 use Prim.Native.Nat.{ℕ, _+_, _≤_, _<_, _^_}
 use mathlib.Core.Path.{_≡_, refl, sym, ap, _∙_}
-use mathlib.Core.Bool.{Bool, true, false, _&&_, and-false, and-eq-true-iff, false≢true}
+use mathlib.Core.Bool.{Bool, true, false, _&&_, and-false, false≢true}
 use mathlib.Core.List.{List, []}
 use native.Mathlib.Omega.{arith}
 use borrow.Author.Tests.{leb-true, eqb-true}
 use lib.Dec.{leb, eqb}
 use lib.ListN.{length, getD}
+use Rattle.words.proofs.Tests.{both}
 use Rattle.records.specs.Limits.{recordsMax, placedMax}
 use Rattle.records.specs.Payload.{no-edit}
 use Rattle.records.specs.Refusal.{codeOf}
@@ -14,7 +15,7 @@ use Rattle.records.specs.Verdict.{must, _then_}
 use Rattle.records.specs.declared.refusal.Reason.the-variants.{Invalid}
 use Rattle.records.specs.declared.refusal.Place.the-variants.{Nowhere}
 use Rattle.records.specs.declared.refusal.Verdict.{Verdict}
-use Rattle.records.specs.declared.refusal.Verdict.the-variants.{Pass, Refuse}
+use Rattle.records.specs.declared.refusal.Verdict.the-variants.{Pass}
 use Rattle.records.proofs.Checks.{then-pass}
 use Rattle.symbols.specs.SymbolList.{valid}
 use Rattle.payload.specs.Counts.{indexOf}
@@ -28,6 +29,7 @@ use Rattle.acceptance.specs.Stages.{Target, target, relocatedOf, recordsIndex, 
 use Rattle.prepare.specs.Prepare.{Outcome, outcome, sizesOk, prepareRules, acceptedOf, outcomeBy, prepareOf}
 use Rattle.prepare.specs.declared.prepare.Prepared.{Prepared}
 use Rattle.prepare.proofs.EditLaws.{InText, edit-in-text, bytes-short}
+use Rattle.prepare.proofs.OutcomeLaws.{verdict-prepared}
 use Rattle.prepare.proofs.PrepareLaws.{records-size}
 use Rattle.abi.specs.Preparing.{rangesOk, buffersOk, callRules, left, leftBy, callOf}
 
@@ -50,20 +52,12 @@ module _ (t : Target) (file image edits summary : List ℕ) where
 -- ---- what the preparation answered
 
 module _ (t : Target) (file image : List ℕ) (r : Prepared) (after : List ℕ) (e : outcome r after ≡ prepareOf t file image) where
-  verdict-told : (v : Verdict) → r .verdict ≡ v → prepareRules t file image ≡ v
-  unfolding prepareOf
-  verdict-told v h = sym (by-verdict (prepareRules t file image)) ∙ ap (λ (x : Outcome). x .answer .verdict) (sym e) ∙ h
-    where
-      by-verdict : (w : Verdict) → outcomeBy t file image w .answer .verdict ≡ w
-      by-verdict Pass = refl
-      by-verdict (Refuse x) = refl
-
   pub rules-told : (v : Verdict) → r .verdict ≡ v → prepareRules t file image ≡ v
-  rules-told = verdict-told
+  rules-told v h = sym (verdict-prepared t file image) ∙ ap (λ (x : Outcome). x .answer .verdict) (sym e) ∙ h
 
   pub outcome-is : (v : Verdict) → r .verdict ≡ v → outcome r after ≡ outcomeBy t file image v
   unfolding prepareOf
-  outcome-is v h = e ∙ ap (outcomeBy t file image) (verdict-told v h)
+  outcome-is v h = e ∙ ap (outcomeBy t file image) (rules-told v h)
 
 -- ---- the edits
 
@@ -110,12 +104,14 @@ pub ranges-any : (text size base : ℕ) (list : List ℕ) → rangesOk (target t
 unfolding rangesOk
 ranges-any text size base list = refl
 
-pub buffers-told : (image edits summary : ℕ) → buffersOk image edits summary ≡ true → (edits ≡ editsSize) × (summary ≡ summarySize)
+pub buffers-told :
+    (image edits summary : ℕ) → buffersOk image edits summary ≡ true →
+    (image ≡ placedMax) × (edits ≡ editsSize) × (summary ≡ summarySize)
 unfolding buffersOk
 buffers-told image edits summary h =
-    let all = and-eq-true-iff (eqb image placedMax && eqb edits editsSize) (eqb summary summarySize) .0 h in
-    let front = and-eq-true-iff (eqb image placedMax) (eqb edits editsSize) .0 (all .0) in
-    (eqb-true _ _ (front .1), eqb-true _ _ (all .1))
+    let all = both (eqb image placedMax && eqb edits editsSize) (eqb summary summarySize) h in
+    let front = both (eqb image placedMax) (eqb edits editsSize) (all .0) in
+    (eqb-true _ _ (front .0), eqb-true _ _ (front .1), eqb-true _ _ (all .1))
 
 -- what is left, part by part
 pub left-same : {a b : ℕ} {i j e f s u : List ℕ} → a ≡ b → i ≡ j → e ≡ f → s ≡ u → left a i e s ≡ left b j f u

@@ -1,11 +1,11 @@
 -- The rules of function records: where all pass, each is kept and no two edits touch, and where one refuses, that one is broken.
 use Prim.Native.Nat.{ℕ, _<_}
 use mathlib.Core.Path.{_≡_, refl, sym, _∙_}
-use mathlib.Core.Bool.{Bool, true, false, cond, _&&_, and-eq-true-iff, false≢true, true≢false}
-use mathlib.Core.Logic.{_⊎_, inl, inr, ⊎-elim}
+use mathlib.Core.Bool.{true, false, cond, _&&_, false≢true, true≢false}
 use mathlib.Core.List.{List}
 use lib.Dec.{eqb}
 use lib.ListN.{length}
+use Rattle.words.proofs.Tests.{both, either-fails}
 use Rattle.records.specs.declared.refusal.Reason.the-variants.{Invalid}
 use Rattle.machine.specs.Edits.{displacementOf, reaches}
 use Rattle.functions.specs.Edits.{formOk, jumpOk, fillOk, inText, fillEdit, jumpEdit, editFrom, editBy, editOf}
@@ -25,11 +25,6 @@ use Rattle.acceptance.proofs.Told.{by-test, Tells, passes, refuses, tol
 -- a record has one old address
 same-address : {o : OldAddress} {a b : ℕ} → o ≡ At a → o ≡ At b → a ≡ b
 same-address h g = cc
-
--- where not both tests hold, one fails
-one-fails : (a b : Bool) → (a && b) ≡ false → (a ≡ false) ⊎ (b ≡ false)
-one-fails true b h = inr h
-one-fails false b h = inl refl
 
 module _ (t : Target) (file : List ℕ) where
   abbrev placed : List ℕ
@@ -87,14 +82,12 @@ module _ (t : Target) (file : List ℕ) where
             let text = inText (t .text) (t .size) old f in
             by-test (Told Kept) (form && text) _ _
             (λ right.
-            let both = and-eq-true-iff form text .0 right in
-            told-as (λ kind. record { old = old; named = named; formed = both .0; in-text = both .1; kind = kind })
+            let kept = both form text right in
+            told-as (λ kind. record { old = old; named = named; formed = kept .0; in-text = kept .1; kind = kind })
             (by-test (Told (Kind old)) (eqb (f .«new_addr») 0) _ _ by-fill by-jump))
-            (λ wrong.
-            ⊎-elim
+            (either-fails form text
             (λ h. refuses (function-forms r below h))
-            (λ h. refuses (function-texts r old below named h))
-            (one-fails form text wrong))
+            (λ h. refuses (function-texts r old below named h)))
 
       by-address :
           (o : OldAddress) → oldAddressAt t file r ≡ o → Told Kept (editBy (t .text) (t .size) (t .base) placed (startAt file r) f o)

@@ -1,7 +1,7 @@
 -- The table of known answers holds.
 use Prim.Native.Nat.{ℕ, _+_}
 use mathlib.Core.Path.{_≡_, refl}
-use mathlib.Core.Bool.{Bool, true, false, and-false, _&&_, and-eq-true-iff}
+use mathlib.Core.Bool.{Bool, true, false, and-false, _&&_}
 use mathlib.Core.List.{List}
 use native.Mathlib.Omega.{arith}
 use borrow.Author.Tests.{eqb-true}
@@ -12,6 +12,7 @@ use Rattle.words.specs.Number.{le, leAt, leBytes}
 use Rattle.words.specs.Order.{allZero}
 use Rattle.words.specs.Splice.{part}
 use Rattle.words.proofs.Addresses.{fits-range, reads-back}
+use Rattle.words.proofs.Tests.{both}
 use Rattle.elf.specs.Layout.{noteOf}
 use Rattle.machine.specs.Edits.{displacementOf, reaches, editBytes}
 use Rattle.payload.specs.Notes.{idLength, padded, noteHeadOk, noteOk}
@@ -19,9 +20,6 @@ use Rattle.payload.proofs.NoteLaws.{note-ok-length}
 use Rattle.placement.specs.Placement.{isPlaced, nextMultiple, endBefore, offsetOf}
 use Rattle.functions.specs.Edits.{jumpOk, fillOk, jumpEdit}
 use Rattle.acceptance.specs.Known.{function, KnownAnswers}
-
-both : (a b : Bool) → (a && b) ≡ true → (a ≡ true) × (b ≡ true)
-both a b = and-eq-true-iff a b .0
 
 -- a note that is right is as long as its id says
 note-length : (note : List ℕ) → noteOk note ≡ true → length note ≡ 16 + padded (idLength note)

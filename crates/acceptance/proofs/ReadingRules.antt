@@ -1,11 +1,12 @@
 -- The rules of the reading: where it passes, each is kept, and where it refuses, the one that it names is Broken.
 use Prim.Native.Nat.{ℕ, _<_}
 use mathlib.Core.Path.{_≡_}
-use mathlib.Core.Bool.{Bool, true, false, _&&_, not, and-eq-true-iff}
+use mathlib.Core.Bool.{Bool, true, false, _&&_, not}
 use mathlib.Core.List.{List}
 use borrow.Author.Tests.{eqb-true, not-true, not-false}
 use lib.Dec.{eqb}
 use lib.ListN.{length}
+use Rattle.words.proofs.Tests.{both, either-fails}
 use Rattle.records.specs.Verdict.{must}
 use Rattle.records.specs.declared.refusal.Reason.{Reason}
 use Rattle.records.specs.declared.refusal.Place.{Place}
@@ -41,11 +42,6 @@ told-not :
     Tells t file (test ≡ false) (must (not test) reason place)
 told-not test reason place broken = told-as (not-true test) (told-must (not test) reason place (λ h. broken (not-false test h)))
 
--- one of two tests fails
-either-fails : {A : Type 0} (a b : Bool) → (a ≡ false → A) → (b ≡ false → A) → (a && b) ≡ false → A
-either-fails true b first second h = second h
-either-fails false b first second h = first h
-
 module _ (t : Target) (file : List ℕ) where
   header-told :
       Tells t file
@@ -58,8 +54,8 @@ module _ (t : Target) (file : List ℕ) where
       let inside = tableInside (fileHeaderOf file) (length file) in
       told-as
       (λ all.
-      let right = and-eq-true-iff (size && fields) inside .0 all in
-      let front = and-eq-true-iff size fields .0 (right .0) in
+      let right = both (size && fields) inside all in
+      let front = both size fields (right .0) in
       (front .0, front .1, right .1))
       (told-must _ _ _ (either-fails (size && fields) inside (either-fails size fields Broken.file-size Broken.header) Broken.section-table))
 

@@ -3,7 +3,6 @@ use Prim.Native.Nat.{ℕ, _+_, _*_, _<_}
 use mathlib.Core.Path.{_≡_}
 use mathlib.Core.Bool.{Bool, true, false}
 use mathlib.Core.List.{List}
-use lib.ListN.{getD}
 use Rattle.elf.specs.Layout.{relocationOf}
 use Rattle.elf.specs.declared.Relocation as elf
 use Rattle.machine.specs.Relocations.{typeOf, valueOf}

@@ -1,14 +1,14 @@
--- The symbols that are resolved once: an array that is filled to its end, and what the two numbers of a symbol say of it.
-use Prim.Native.Nat.{ℕ, _+_, _*_, _-_, _≤_, _<_}
+-- The symbols that are resolved once: what the two numbers of a symbol say of it.
+use Prim.Native.Nat.{ℕ, _+_, _*_, _≤_, _<_}
 use mathlib.Core.Path.{_≡_, refl, ap}
 use mathlib.Core.Bool.{Bool, true, false, cond}
-use mathlib.Core.List.{List, append-nil}
+use mathlib.Core.List.{List}
 use native.Mathlib.Nat.{zero-add}
 use native.Mathlib.Omega.{arith}
 use borrow.Author.Tests.{ne-eqb, lt-leb}
 use lib.Dec.{leb, ltb, eqb}
 use lib.ListN.{getD, length}
-use Rattle.words.specs.Scan.{each, filled}
+use Rattle.words.specs.Scan.{each}
 use Rattle.words.proofs.Scan.{getD-each}
 use Rattle.records.specs.declared.refusal.Reason.the-variants.{NotListed, Invalid, Unsupported}
 use Rattle.elf.specs.Name.{Name, named, unnamed, nameIn}
@@ -22,13 +22,6 @@ use Rattle.linking.specs.Symbols.{addressFound, listedBy, definedIn, val
 use Rattle.linking.specs.declared.resolved.Resolved.{Resolved}
 use Rattle.linking.specs.declared.values.SymbolValue.{SymbolValue}
 use Rattle.linking.specs.declared.values.SymbolValue.the-variants.{Value, Refused}
-
--- an array that is filled to its end
-pub filled-whole : {A : Type 0} (f : ℕ → A) (z : A) (m : ℕ) → filled f z m m ≡ each f 0 m
-unfolding filled
-filled-whole f z m =
-    let none : m - m ≡ 0 = omega arith in
-    rw none (append-nil (each f 0 m))
 
 -- ---- from a value and a fault back to the symbol
 

@@ -1,7 +1,7 @@
 -- Notes: the test and the id by a head that was read, how long a note is, and which notes pass.
 use Prim.Native.Nat.{ℕ, _+_, _-_, _≤_, _<_}
 use mathlib.Core.Path.{_≡_, sym, ap}
-use mathlib.Core.Bool.{Bool, true, cond, _&&_, and-eq-true-iff}
+use mathlib.Core.Bool.{Bool, true, cond, _&&_}
 use mathlib.Core.List.{List}
 use native.Mathlib.Omega.{arith}
 use borrow.Author.Tests.{leb-true, eqb-true}
@@ -10,6 +10,7 @@ use lib.ListN.{length, take, drop, replicate, length-drop}
 use lib.Seq.{take-length}
 use Rattle.words.specs.Order.{allZero}
 use Rattle.words.specs.Splice.{part, splice}
+use Rattle.words.proofs.Tests.{both}
 use Rattle.records.specs.Limits.{idMin, idMax}
 use Rattle.records.specs.Verdict.{must}
 use Rattle.records.specs.declared.payload.BuildId.{BuildId}
@@ -53,25 +54,22 @@ module _ (note : List ℕ) where
 
 -- ---- a note's length
 
-and-true : (a b : Bool) → (a && b) ≡ true → (a ≡ true) × (b ≡ true)
-and-true a b = and-eq-true-iff a b .0
-
 -- the id's length
 head-length : (head : Note) → noteHeadOk head ≡ true → (idMin ≤ head .«n_descsz») × (head .«n_descsz» ≤ idMax)
 unfolding noteHeadOk
 head-length head h =
-    let named = and-true _ (eqb (head .name) 0x00554e47) h in
-    let typed = and-true _ (eqb (head .«n_type») 3) (named .0) in
-    let high = and-true _ _ (typed .0) in
-    let low = and-true (eqb (head .«n_namesz») 4) _ (high .0) in
+    let named = both _ (eqb (head .name) 0x00554e47) h in
+    let typed = both _ (eqb (head .«n_type») 3) (named .0) in
+    let high = both _ _ (typed .0) in
+    let low = both (eqb (head .«n_namesz») 4) _ (high .0) in
     (leb-true _ _ (low .1), leb-true _ _ (high .1))
 
 pub note-ok-length : (note : List ℕ) → noteOk note ≡ true → (16 + idLength note ≤ length note) × (idMin ≤ idLength note) × (idLength note ≤ idMax)
 unfolding noteOk
 note-ok-length note h =
-    let ended = and-true _ (allZero (drop (16 + idLength note) note)) h in
-    let sized = and-true _ (eqb (length note) (16 + padded (idLength note))) (ended .0) in
-    let headed = and-true (leb 16 (length note)) _ (sized .0) in
+    let ended = both _ (allZero (drop (16 + idLength note) note)) h in
+    let sized = both _ (eqb (length note) (16 + padded (idLength note))) (ended .0) in
+    let headed = both (leb 16 (length note)) _ (sized .0) in
     let size : length note ≡ 16 + padded (idLength note) = eqb-true _ _ (sized .1) in
     let id = head-length (noteOf note) (headed .1) in
     (omega arith, id .0, id .1)

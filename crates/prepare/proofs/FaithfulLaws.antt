@@ -1,11 +1,8 @@
 -- The outcome of a preparation is faithful: it says of the payload what the rules say.
 use Prim.Native.Nat.{ℕ}
-use mathlib.Core.Path.{_≡_, refl, sym, ap, subst⁻¹, _∙_}
+use mathlib.Core.Path.{_≡_, refl, subst⁻¹, _∙_}
 use mathlib.Core.Bool.{Bool, true, false}
 use mathlib.Core.List.{List}
-use Rattle.records.specs.Verdict.{must}
-use Rattle.records.specs.declared.refusal.Reason.the-variants.{Invalid}
-use Rattle.records.specs.declared.refusal.Place.the-variants.{Nowhere}
 use Rattle.records.specs.declared.refusal.Verdict.{Verdict}
 use Rattle.records.specs.declared.refusal.Verdict.the-variants.{Pass, Refuse}
 use Rattle.acceptance.specs.Broken.{Exact}
@@ -13,17 +10,14 @@ use Rattle.acceptance.specs.Consulted.{Alike}
 use Rattle.acceptance.specs.Stages.{Target, payloadRules}
 use Rattle.acceptance.proofs.Exactness.{exact}
 use Rattle.acceptance.proofs.SameAnswers.{SameAnswer, alike-same}
+use Rattle.prepare.proofs.OutcomeLaws.{verdict-prepared}
 use Rattle.prepare.specs.Prepare.{sizesOk, prepareRules, Outcome, outcomeBy, prepareOf, Faithful}
 
 module _ (t : Target) (file image : List ℕ) where
   -- where the sizes are right, the verdict is that of the payload's own rules
   own-rules : sizesOk t image ≡ true → prepareOf t file image .answer .verdict ≡ payloadRules t file
-  unfolding prepareOf prepareRules
-  own-rules sizes = by-verdict (prepareRules t file image) ∙ rw sizes
-    where
-      by-verdict : (v : Verdict) → outcomeBy t file image v .answer .verdict ≡ v
-      by-verdict Pass = refl
-      by-verdict (Refuse r) = refl
+  unfolding prepareRules
+  own-rules sizes = verdict-prepared t file image ∙ rw sizes
 
   -- the same outcome, stage by stage
   module _ (other : List ℕ) (alike : Alike file other) where

@@ -21,11 +21,20 @@ use Rattle.payload.proofs.ReadingLaws.{verdict-read}
 use Rattle.placement.specs.Placement.{imageBefore, placementRules}
 use Rattle.relocation.proofs.RelocateLaws.{length-relocated}
 use Rattle.acceptance.specs.Stages.{Target, recordsIndex, relocatedOf, buildRules}
-use Rattle.prepare.specs.Prepare.{Ready, Outcome, outcome, sizesOk, prepareRules, refusedBy, acceptedOf, allBuilt, builtBy, builtOf, prepareOf}
+use Rattle.prepare.specs.Prepare.{Ready, Outcome, outcome, outcomeBy, sizesOk, prepareRules, refusedBy, acceptedOf, allBuilt, builtBy, builtOf, prepareOf}
 use Rattle.prepare.specs.declared.build.Built.{Built}
 use Rattle.prepare.proofs.PrepareLaws.{linkable}
 
 module _ (t : Target) (file image : List ℕ) where
+  -- the verdict of an outcome is that of the rules
+  pub verdict-prepared : prepareOf t file image .answer .verdict ≡ prepareRules t file image
+  unfolding prepareOf
+  verdict-prepared = by-verdict (prepareRules t file image)
+    where
+      by-verdict : (v : Verdict) → outcomeBy t file image v .answer .verdict ≡ v
+      by-verdict Pass = refl
+      by-verdict (Refuse r) = refl
+
   pub wrong-sizes : sizesOk t image ≡ false → prepareOf t file image ≡ outcome (refusedBy (refusal Invalid Nowhere)) image
   unfolding prepareOf prepareRules
   wrong-sizes e = rw e

@@ -1,7 +1,7 @@
 -- What a file that passes the reading gives the stages after it: every relocation has its place, and every record is inside the placed bytes.
 use Prim.Native.Nat.{ℕ, _+_, _*_, _≤_, _<_}
 use mathlib.Core.Path.{_≡_, refl, sym, _∙_}
-use mathlib.Core.Bool.{Bool, true, false, cond, not, _&&_, _||_, and-false, and-eq-true-iff, false≢true}
+use mathlib.Core.Bool.{Bool, true, false, cond, not, _&&_, _||_, and-false, false≢true}
 use mathlib.Core.List.{List}
 use native.Mathlib.Omega.{arith}
 use borrow.Author.Tests.{ltb-true, leb-true, not-true}
@@ -9,6 +9,7 @@ use lib.Dec.{ltb}
 use lib.ListN.{length, getD}
 use Rattle.words.specs.Scan.{filled}
 use Rattle.words.proofs.Scan.{getD-filled, length-filled}
+use Rattle.words.proofs.Tests.{both}
 use Rattle.records.specs.Limits.{placedMax, sectionsMax, recordsMax}
 use Rattle.records.specs.Verdict.{must}
 use Rattle.records.specs.declared.refusal.Reason.the-variants.{Invalid}
@@ -33,9 +34,6 @@ use Rattle.relocation.proofs.RelocateLaws.{relocating-kind}
 use Rattle.prepare.specs.Prepare.{Ready}
 
 -- ---- tests
-
-both : (a b : Bool) → (a && b) ≡ true → (a ≡ true) × (b ≡ true)
-both a b = and-eq-true-iff a b .0
 
 target-placed : (a t b g n : Bool) → ((a && t) || b || g) ≡ true → g ≡ false → (a || b || n) ≡ true
 target-placed true t b g n h e = refl

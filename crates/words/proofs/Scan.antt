@@ -4,7 +4,7 @@ use Prim.Native.Nat.{ℕ, zero, suc, _+_, _-_, _≤_, _<_}
 use mathlib.Core.Path.{_≡_, refl, sym, ap, subst, _∙_}
 use mathlib.Core.Logic.{_⊎_, inl, inr, ⊎-elim}
 use mathlib.Core.Bool.{Bool, true, false, cond}
-use mathlib.Core.List.{List, [], _∷_, _++_}
+use mathlib.Core.List.{List, [], _∷_, _++_, append-nil}
 use native.Mathlib.Nat.{add-zero, zero-add, eq-or-lt-of-le}
 use native.Mathlib.Numerals.{add-one}
 use native.Mathlib.Omega.{arith}
@@ -113,3 +113,10 @@ unfolding filled
 getD-filled f z m n i d h =
     let short : i < length (each f 0 n) = omega (arith, length-each f 0 n) in
     List·getD-append (each f 0 n) (replicate (m - n) z) d i short ∙ getD-each f 0 n i d h ∙ rw (zero-add i)
+
+-- an array that is filled to its end
+pub filled-whole : {A : Type 0} (f : ℕ → A) (z : A) (m : ℕ) → filled f z m m ≡ each f 0 m
+unfolding filled
+filled-whole f z m =
+    let none : m - m ≡ 0 = omega arith in
+    rw none (append-nil (each f 0 m))

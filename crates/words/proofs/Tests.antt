@@ -1,7 +1,8 @@
--- What a callee answered, tested: a test as `if !test(..)`, and a number as `if number(..) != k`, where the branch was taken and where it was left.
+-- What a callee answered, tested: a test as `if !test(..)`, and a number as `if number(..) != k`, where the branch was taken and where it was left;
+-- and two tests joined by `&&`.
 use Prim.Native.Nat.{ℕ}
-use mathlib.Core.Path.{_≡_, sym, _∙_}
-use mathlib.Core.Bool.{Bool, true, false, not}
+use mathlib.Core.Path.{_≡_, refl, sym, _∙_}
+use mathlib.Core.Bool.{Bool, true, false, not, _&&_, and-eq-true-iff}
 use borrow.Author.Tests.{not-true, not-false, eq-eqb, ne-eqb}
 use lib.Dec.{eqb}
 
@@ -16,3 +17,11 @@ differs {r} {x} {k} e h = ne-eqb x k λ same. h (e ∙ same)
 
 pub equals : {r x k : ℕ} → r ≡ x → r ≡ k → eqb x k ≡ true
 equals {r} {x} {k} e h = eq-eqb x k (sym e ∙ h)
+
+pub both : (a b : Bool) → (a && b) ≡ true → (a ≡ true) × (b ≡ true)
+both a b = and-eq-true-iff a b .0
+
+-- what follows from each of them failing follows where not both hold
+pub either-fails : {A : Type 0} (a b : Bool) → (a ≡ false → A) → (b ≡ false → A) → (a && b) ≡ false → A
+either-fails true b first second h = second h
+either-fails false b first second h = first refl

@@ -173,12 +173,12 @@ module _ (c : tie.After-enum-told) where
 write-edits-requires : tie.Need-write-edits-requires
 write-edits-requires c κs =
     let accepted = c .before .before in
-    (buffers-told _ _ _ (buffers (sized (preparing accepted))) .0, can-write accepted .0, can-write accepted .1)
+    (buffers-told _ _ _ (buffers (sized (preparing accepted))) .1, can-write accepted .0, can-write accepted .1)
 
 write-summary-requires : tie.Need-write-summary-requires
 write-summary-requires c κs =
     let accepted = c .before .before .before .before .before .before .before .before in
-    buffers-told _ _ _ (buffers (sized (preparing accepted))) .1
+    buffers-told _ _ _ (buffers (sized (preparing accepted))) .2
 
 same-length-2 : tie.Need-same-length-2
 same-length-2 c = search needs

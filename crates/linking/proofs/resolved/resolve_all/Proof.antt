@@ -4,11 +4,10 @@ use mathlib.Core.Path.{_≡_}
 use native.Mathlib.Omega.{arith}
 use borrow.Author.Needs.{needs}
 use Rattle.words.specs.Scan.{filled}
-use Rattle.words.proofs.Scan.{fill-begin, fill-turn}
+use Rattle.words.proofs.Scan.{fill-begin, fill-turn, filled-whole}
 use Rattle.linking.specs.Linking.{linking}
 use Rattle.linking.specs.Resolved.{symbolsMax, valueIn, faultIn, resolved}
 use Rattle.linking.specs.Symbols.{symbolValue}
-use Rattle.linking.proofs.ResolvedLaws.{filled-whole}
 use Rattle.linking.proofs.resolved.resolve_all.Statement.{statement}
 use Rattle.linking.proofs.resolved.resolve_all.Tie as tie
 
