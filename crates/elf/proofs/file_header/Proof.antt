@@ -9,9 +9,6 @@ use Rattle.words.proofs.Tests.{held, refuted}
 use Rattle.elf.proofs.file_header.Statement.{statement}
 use Rattle.elf.proofs.file_header.Tie as tie
 
-inside-requires : tie.Need-inside-requires
-inside-requires c κs = search needs
-
 returns : tie.Need-returns
 unfolding fileHeader
 returns c =
@@ -27,4 +24,4 @@ unfolding fileHeader
 returns-2 c = rw (held (c .before .before .inside .ensures) (c .before .if1 .left), c .read-file-header .ensures .0)
 
 pub file-header-spec : {M : Type 1} → statement M
-file-header-spec = tie.close (tie.spec inside-requires returns read-file-header-requires returns-2)
+file-header-spec = tie.close (tie.spec (λ c κs. search needs) returns read-file-header-requires returns-2)

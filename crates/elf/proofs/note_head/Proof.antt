@@ -9,9 +9,6 @@ use Rattle.words.proofs.Tests.{held, refuted}
 use Rattle.elf.proofs.note_head.Statement.{statement}
 use Rattle.elf.proofs.note_head.Tie as tie
 
-inside-requires : tie.Need-inside-requires
-inside-requires c κs = search needs
-
 returns : tie.Need-returns
 unfolding note
 returns c =
@@ -27,4 +24,4 @@ unfolding note
 returns-2 c = rw (held (c .before .before .inside .ensures) (c .before .if1 .left), c .read-note .ensures .0)
 
 pub note-head-spec : {M : Type 1} → statement M
-note-head-spec = tie.close (tie.spec inside-requires returns read-note-requires returns-2)
+note-head-spec = tie.close (tie.spec (λ c κs. search needs) returns read-note-requires returns-2)

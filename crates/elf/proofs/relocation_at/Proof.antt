@@ -9,9 +9,6 @@ use Rattle.words.proofs.Tests.{held, refuted}
 use Rattle.elf.proofs.relocation_at.Statement.{statement}
 use Rattle.elf.proofs.relocation_at.Tie as tie
 
-inside-requires : tie.Need-inside-requires
-inside-requires c κs = search needs
-
 returns : tie.Need-returns
 unfolding relocation
 returns c =
@@ -28,4 +25,4 @@ returns-2 c = rw (held (c .before .before .inside .ensures) (c .before .if1 .lef
 
 pub relocation-at-spec : {M : Type 1} → statement M
 relocation-at-spec =
-    tie.close (tie.spec inside-requires returns read-relocation-requires returns-2)
+    tie.close (tie.spec (λ c κs. search needs) returns read-relocation-requires returns-2)

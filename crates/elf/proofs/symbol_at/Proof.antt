@@ -9,9 +9,6 @@ use Rattle.words.proofs.Tests.{held, refuted}
 use Rattle.elf.proofs.symbol_at.Statement.{statement}
 use Rattle.elf.proofs.symbol_at.Tie as tie
 
-inside-requires : tie.Need-inside-requires
-inside-requires c κs = search needs
-
 returns : tie.Need-returns
 unfolding symbol
 returns c =
@@ -27,4 +24,4 @@ unfolding symbol
 returns-2 c = rw (held (c .before .before .inside .ensures) (c .before .if1 .left), c .read-symbol .ensures .0)
 
 pub symbol-at-spec : {M : Type 1} → statement M
-symbol-at-spec = tie.close (tie.spec inside-requires returns read-symbol-requires returns-2)
+symbol-at-spec = tie.close (tie.spec (λ c κs. search needs) returns read-symbol-requires returns-2)

@@ -24,15 +24,6 @@ loop-holds : tie.Need-loop-holds Inv-loop μ-loop
 unfolding rows
 loop-holds c = (omega arith, sym (splice-none (c .before .args .buffer .now) 0), omega arith)
 
-mul-edit : tie.Need-mul-edit Inv-loop μ-loop
-mul-edit c = omega arith
-
-array-copy-out-edit : tie.Need-array-copy-out-edit Inv-loop μ-loop
-array-copy-out-edit c = omega arith
-
-mul-write-entry : tie.Need-mul-write-entry Inv-loop μ-loop
-mul-write-entry c = omega arith
-
 write-entry-requires : tie.Need-write-entry-requires Inv-loop μ-loop
 write-entry-requires c κs =
     let a = c .before .before .before .before .before .before .args in
@@ -41,18 +32,6 @@ write-entry-requires c κs =
     let listed : r < a .count = omega arith in
     let same = sym (copied (a .t3) r within) in
     (omega arith, rw same (c .before .before .before .before .before .before .pre .2 .addressed r listed), rw same (c .before .before .before .before .before .before .pre .2 .short r listed))
-
-mul-fill : tie.Need-mul-fill Inv-loop μ-loop
-mul-fill c = omega arith
-
-fill-requires : tie.Need-fill-requires Inv-loop μ-loop
-fill-requires c κs = omega arith
-
-add-r : tie.Need-add-r Inv-loop μ-loop
-add-r c = omega arith
-
-loop-less : tie.Need-loop-less Inv-loop μ-loop
-loop-less c = omega arith
 
 -- either way, the entry is laid behind those before
 laid :
@@ -82,9 +61,6 @@ loop-again c =
       ap length (laid c) ∙ length-splice (l .buffer) (entrySize * l .r) row room ∙ l .inv .2,
     )
 
-same-length : tie.Need-same-length Inv-loop μ-loop
-same-length c = omega arith
-
 returns : tie.Need-returns Inv-loop μ-loop
 returns c =
     let a = c .before .before .before .args in
@@ -100,14 +76,14 @@ write-edits-spec =
     Inv-loop
     μ-loop
     loop-holds
-    mul-edit
-    array-copy-out-edit
-    mul-write-entry
+    (λ c. omega arith)
+    (λ c. omega arith)
+    (λ c. omega arith)
     write-entry-requires
-    mul-fill
-    fill-requires
-    add-r
-    loop-less
+    (λ c. omega arith)
+    (λ c κs. omega arith)
+    (λ c. omega arith)
+    (λ c. omega arith)
     loop-again
-    same-length
+    (λ c. omega arith)
     returns)

@@ -6,36 +6,6 @@ use Rattle.encode.proofs.Laws.{entry-laid}
 use Rattle.encode.proofs.write_entry.Statement.{statement}
 use Rattle.encode.proofs.write_entry.Tie as tie
 
-fill-requires : tie.Need-fill-requires
-fill-requires c κs = search needs
-
-cast-write : tie.Need-cast-write
-cast-write c = search needs
-
-add-write : tie.Need-add-write
-add-write c = search needs
-
-write-requires : tie.Need-write-requires
-write-requires c κs = search needs
-
-add-write-2 : tie.Need-add-write-2
-add-write-2 c = search needs
-
-cast-write-2 : tie.Need-cast-write-2
-cast-write-2 c = search needs
-
-write-requires-2 : tie.Need-write-requires-2
-write-requires-2 c κs = search needs
-
-add-write-edit : tie.Need-add-write-edit
-add-write-edit c = search needs
-
-write-edit-requires : tie.Need-write-edit-requires
-write-edit-requires c κs = search needs
-
-same-length : tie.Need-same-length
-same-length c = search needs
-
 returns : tie.Need-returns
 returns c =
     let edit = c .before .before in
@@ -51,14 +21,14 @@ pub write-entry-spec : {M : Type 1} → statement M
 write-entry-spec =
     tie.close
     (tie.spec
-    fill-requires
-    cast-write
-    add-write
-    write-requires
-    add-write-2
-    cast-write-2
-    write-requires-2
-    add-write-edit
-    write-edit-requires
-    same-length
+    (λ c κs. search needs)
+    (λ c. search needs)
+    (λ c. search needs)
+    (λ c κs. search needs)
+    (λ c. search needs)
+    (λ c. search needs)
+    (λ c κs. search needs)
+    (λ c. search needs)
+    (λ c κs. search needs)
+    (λ c. search needs)
     returns)

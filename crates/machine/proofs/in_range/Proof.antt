@@ -4,12 +4,6 @@ use Rattle.machine.proofs.Arms.{any-value}
 use Rattle.machine.proofs.in_range.Statement.{statement}
 use Rattle.machine.proofs.in_range.Tie as tie
 
-enum-told : tie.Need-enum-told
-enum-told c = search needs
-
-fits-signed-requires : tie.Need-fits-signed-requires
-fits-signed-requires c κs = search needs
-
 returns : tie.Need-returns
 returns c = rw (c .before .enum-told .given .1) (c .fits-signed .ensures)
 
@@ -17,4 +11,4 @@ returns-2 : tie.Need-returns-2
 returns-2 c = any-value (c .before .args .t) (c .before .args .v) (c .match .keys2)
 
 pub in-range-spec : {M : Type 1} → statement M
-in-range-spec = tie.close (tie.spec enum-told fits-signed-requires returns returns-2)
+in-range-spec = tie.close (tie.spec (λ c. search needs) (λ c κs. search needs) returns returns-2)

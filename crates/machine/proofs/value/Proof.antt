@@ -5,15 +5,6 @@ use Rattle.machine.proofs.Arms.{plain-sum}
 use Rattle.machine.proofs.value.Statement.{statement}
 use Rattle.machine.proofs.value.Tie as tie
 
-add-requires : tie.Need-add-requires
-add-requires c κs = search needs
-
-enum-told : tie.Need-enum-told
-enum-told c = search needs
-
-subtract-requires : tie.Need-subtract-requires
-subtract-requires c κs = search needs
-
 returns : tie.Need-returns
 returns c =
     let told = c .before in
@@ -23,4 +14,4 @@ returns-2 : tie.Need-returns-2
 returns-2 c = c .before .add .ensures ∙ plain-sum (c .before .before .args .t) _ _ (c .before .before .args .p) (c .match .keys2)
 
 pub value-spec : {M : Type 1} → statement M
-value-spec = tie.close (tie.spec add-requires enum-told subtract-requires returns returns-2)
+value-spec = tie.close (tie.spec (λ c κs. search needs) (λ c. search needs) (λ c κs. search needs) returns returns-2)

@@ -10,9 +10,6 @@ use Rattle.machine.proofs.Laws.{length-edit}
 use Rattle.machine.proofs.write_edit.Statement.{statement}
 use Rattle.machine.proofs.write_edit.Tie as tie
 
-enum-known-kind : tie.Need-enum-known-kind
-enum-known-kind c = search needs
-
 -- where the edit is a jump, the text has room for it
 room :
     (c : tie.After-kind) → let a = c .before .before .before .args in
@@ -22,28 +19,13 @@ room c = omega (arith, length-edit (c .before .before .before .args .edit) .0 _ 
 fill-requires : tie.Need-fill-requires
 fill-requires c κs = omega (arith, room (c .before .before))
 
-add-write : tie.Need-add-write
-add-write c = search needs
-
-cast-write : tie.Need-cast-write
-cast-write c = search needs
-
 write-requires : tie.Need-write-requires
 write-requires c κs = omega (arith, room (c .before .before .before .before .before .before))
-
-enum-told : tie.Need-enum-told
-enum-told c = search needs
-
-cast-fill : tie.Need-cast-fill
-cast-fill c = search needs
 
 fill-requires-2 : tie.Need-fill-requires-2
 fill-requires-2 c κs =
     let told = c .before .before in
     omega (arith, length-edit (told .before .before .before .args .edit) .1 (told .enum-told .given .1))
-
-same-length : tie.Need-same-length
-same-length c = search needs
 
 returns : tie.Need-returns
 unfolding editBytes
@@ -55,9 +37,6 @@ returns c =
     rw (jump .kind .given .1)
     (write .write .ensures ∙ rw (fill .fill .ensures) (splice-append (a .text .now) (a .at) _ (omega arith) _))
 
-same-length-2 : tie.Need-same-length-2
-same-length-2 c = search needs
-
 returns-2 : tie.Need-returns-2
 unfolding editBytes
 returns-2 c =
@@ -68,15 +47,15 @@ pub write-edit-spec : {M : Type 1} → statement M
 write-edit-spec =
     tie.close
     (tie.spec
-    enum-known-kind
+    (λ c. search needs)
     fill-requires
-    add-write
-    cast-write
+    (λ c. search needs)
+    (λ c. search needs)
     write-requires
-    enum-told
-    cast-fill
+    (λ c. search needs)
+    (λ c. search needs)
     fill-requires-2
-    same-length
+    (λ c. search needs)
     returns
-    same-length-2
+    (λ c. search needs)
     returns-2)

@@ -5,9 +5,6 @@ use Rattle.placement.specs.Placement.{hasContents}
 use Rattle.placement.proofs.has_contents.Statement.{statement}
 use Rattle.placement.proofs.has_contents.Tie as tie
 
-is-placed-requires : tie.Need-is-placed-requires
-is-placed-requires c κs = search needs
-
 returns : tie.Need-returns
 unfolding hasContents
 returns c = rw (refuted (c .before .is-placed .ensures) (c .if1 .taken))
@@ -17,4 +14,4 @@ unfolding hasContents
 returns-2 c = rw (held (c .before .before .before .is-placed .ensures) (c .before .before .if1 .left))
 
 pub has-contents-spec : {M : Type 1} → statement M
-has-contents-spec = tie.close (tie.spec is-placed-requires returns returns-2)
+has-contents-spec = tie.close (tie.spec (λ c κs. search needs) returns returns-2)

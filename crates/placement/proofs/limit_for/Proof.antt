@@ -5,9 +5,6 @@ use Rattle.words.proofs.Tests.{held, refuted}
 use Rattle.placement.proofs.limit_for.Statement.{statement}
 use Rattle.placement.proofs.limit_for.Tie as tie
 
-is-placed-requires : tie.Need-is-placed-requires
-is-placed-requires c κs = search needs
-
 returns : tie.Need-returns
 returns c = rw (refuted (c .before .is-placed .ensures) (c .if1 .taken))
 
@@ -20,4 +17,4 @@ returns-2 : tie.Need-returns-2
 returns-2 c = rw (held (c .before .before .before .is-placed .ensures) (c .before .before .if1 .left))
 
 pub limit-for-spec : {M : Type 1} → statement M
-limit-for-spec = tie.close (tie.spec is-placed-requires returns add-result returns-2)
+limit-for-spec = tie.close (tie.spec (λ c κs. search needs) returns add-result returns-2)

@@ -11,9 +11,6 @@ returns : tie.Need-returns
 unfolding nextMultiple
 returns c = simp (eq-eqb _ _ (c .if1 .taken))
 
-rem-past : tie.Need-rem-past
-rem-past c = search needs
-
 returns-2 : tie.Need-returns-2
 unfolding nextMultiple
 returns-2 c = simp (ne-eqb _ _ (c .before .if1 .left), eq-eqb _ _ (c .if2 .taken))
@@ -34,4 +31,4 @@ returns-3 c = simp (ne-eqb _ _ (c .before .if1 .left), ne-eqb _ _ (c .if2 .left)
 
 pub next-multiple-spec : {M : Type 1} → statement M
 next-multiple-spec =
-    tie.close (tie.spec returns rem-past returns-2 sub-result add-result returns-3)
+    tie.close (tie.spec returns (λ c. search needs) returns-2 sub-result add-result returns-3)

@@ -23,27 +23,6 @@ abbrev μ-loop : tie.MeasureT-loop
 loop-holds : tie.Need-loop-holds Inv-loop μ-loop
 loop-holds c = placing-begin _ _ _
 
-mul-one : tie.Need-mul-one Inv-loop μ-loop
-mul-one c = omega arith
-
-array-copy-out-one : tie.Need-array-copy-out-one Inv-loop μ-loop
-array-copy-out-one c = omega arith
-
-place-one-requires : tie.Need-place-one-requires Inv-loop μ-loop
-place-one-requires c κs = omega arith
-
-enum-known-start : tie.Need-enum-known-start Inv-loop μ-loop
-enum-known-start c = search needs
-
-enum-told : tie.Need-enum-told Inv-loop μ-loop
-enum-told c = search needs
-
-cast-refuse-at : tie.Need-cast-refuse-at Inv-loop μ-loop
-cast-refuse-at c = omega arith
-
-refuse-at-requires : tie.Need-refuse-at-requires Inv-loop μ-loop
-refuse-at-requires c κs = search needs
-
 returns : tie.Need-returns Inv-loop μ-loop
 unfolding noEntry
 returns c =
@@ -63,14 +42,8 @@ steps :
 unfolding noEntry
 steps c = sym (c .before .before .before .place-one .ensures) ∙ c .before .start .given .1
 
-has-contents-requires : tie.Need-has-contents-requires Inv-loop μ-loop
-has-contents-requires c κs = search needs
-
 slice-aggregate-copy : tie.Need-slice-aggregate-copy Inv-loop μ-loop
 slice-aggregate-copy c = sym (image-length (c .before .before .before .before .before .before .before .before .before .before .loop .inv))
-
-contents-of-requires : tie.Need-contents-of-requires Inv-loop μ-loop
-contents-of-requires c κs = search needs
 
 copy-requires : tie.Need-copy-requires Inv-loop μ-loop
 unfolding noEntry
@@ -88,28 +61,10 @@ copy-requires c κs =
       image-length (loop .inv),
     )
 
-mul-offsets : tie.Need-mul-offsets Inv-loop μ-loop
-mul-offsets c = omega arith
-
-array-write-offsets : tie.Need-array-write-offsets Inv-loop μ-loop
-array-write-offsets c = omega arith
-
 limit-for-requires : tie.Need-limit-for-requires Inv-loop μ-loop
 unfolding noEntry
 limit-for-requires c κs =
     limit-inside _ _ (step-at _ _ (steps (c .before .before)) .room)
-
-mul-limits : tie.Need-mul-limits Inv-loop μ-loop
-mul-limits c = omega arith
-
-array-write-limits : tie.Need-array-write-limits Inv-loop μ-loop
-array-write-limits c = omega arith
-
-add-i : tie.Need-add-i Inv-loop μ-loop
-add-i c = omega arith
-
-loop-less : tie.Need-loop-less Inv-loop μ-loop
-loop-less c = omega arith
 
 -- the section's bytes are laid where it goes
 lays :
@@ -144,24 +99,24 @@ place-spec =
     Inv-loop
     μ-loop
     loop-holds
-    mul-one
-    array-copy-out-one
-    place-one-requires
-    enum-known-start
-    enum-told
-    cast-refuse-at
-    refuse-at-requires
+    (λ c. omega arith)
+    (λ c. omega arith)
+    (λ c κs. omega arith)
+    (λ c. search needs)
+    (λ c. search needs)
+    (λ c. omega arith)
+    (λ c κs. search needs)
     returns
-    has-contents-requires
+    (λ c κs. search needs)
     slice-aggregate-copy
-    contents-of-requires
+    (λ c κs. search needs)
     copy-requires
-    mul-offsets
-    array-write-offsets
+    (λ c. omega arith)
+    (λ c. omega arith)
     limit-for-requires
-    mul-limits
-    array-write-limits
-    add-i
-    loop-less
+    (λ c. omega arith)
+    (λ c. omega arith)
+    (λ c. omega arith)
+    (λ c. omega arith)
     loop-again
     returns-2)

@@ -9,18 +9,9 @@ use Rattle.placement.specs.Placement.{stepOf}
 use Rattle.placement.proofs.place_one.Statement.{statement}
 use Rattle.placement.proofs.place_one.Tie as tie
 
-is-placed-requires : tie.Need-is-placed-requires
-is-placed-requires c κs = search needs
-
 returns : tie.Need-returns
 unfolding stepOf
 returns c = rw (refuted (c .before .is-placed .ensures) (c .if1 .taken), le-leb _ _ (c .before .before .pre))
-
-next-multiple-requires : tie.Need-next-multiple-requires
-next-multiple-requires c κs = search needs
-
-lies-within-requires : tie.Need-lies-within-requires
-lies-within-requires c κs = search needs
 
 returns-2 : tie.Need-returns-2
 unfolding stepOf
@@ -52,10 +43,10 @@ pub place-one-spec : {M : Type 1} → statement M
 place-one-spec =
     tie.close
     (tie.spec
-    is-placed-requires
+    (λ c κs. search needs)
     returns
-    next-multiple-requires
-    lies-within-requires
+    (λ c κs. search needs)
+    (λ c κs. search needs)
     returns-2
     add-t7
     returns-3)

@@ -3,9 +3,6 @@ use borrow.Author.Needs.{needs}
 use Rattle.symbols.proofs.check.Statement.{statement}
 use Rattle.symbols.proofs.check.Tie as tie
 
-is-valid-requires : tie.Need-is-valid-requires
-is-valid-requires c κs = search needs
-
 returns : tie.Need-returns
 returns c = rw (← c .before .is-valid .ensures, c .if1 .taken)
 
@@ -13,4 +10,4 @@ returns-2 : tie.Need-returns-2
 returns-2 c = rw (← c .before .is-valid .ensures, c .if1 .left)
 
 pub check-spec : {M : Type 1} → statement M
-check-spec = tie.close (tie.spec is-valid-requires returns returns-2)
+check-spec = tie.close (tie.spec (λ c κs. search needs) returns returns-2)

@@ -26,15 +26,6 @@ loop-holds c =
     let all : c .before .args .count - 0 ≡ c .before .args .count = omega arith in
     (omega arith, omega arith, omega arith, rw all)
 
-entry-at-requires : tie.Need-entry-at-requires Inv-loop μ-loop
-entry-at-requires c κs = search needs
-
-enum-known-name-length : tie.Need-enum-known-name-length Inv-loop μ-loop
-enum-known-name-length c = search needs
-
-enum-told : tie.Need-enum-told Inv-loop μ-loop
-enum-told c = search needs
-
 -- the list, and where the turn's entry begins
 module _ (c : tie.In-loop Inv-loop μ-loop) where
   abbrev list : List ℕ
@@ -62,26 +53,8 @@ add-start c = omega (arith, read c .inside)
 add-end : tie.Need-add-end Inv-loop μ-loop
 add-end c = omega (arith, read c .inside)
 
-sub-rises : tie.Need-sub-rises Inv-loop μ-loop
-sub-rises c = omega arith
-
-part-rises-start : tie.Need-part-rises-start Inv-loop μ-loop
-part-rises-start c = omega arith
-
-part-rises-end : tie.Need-part-rises-end Inv-loop μ-loop
-part-rises-end c = omega arith
-
-sub-rises-2 : tie.Need-sub-rises-2 Inv-loop μ-loop
-sub-rises-2 c = omega arith
-
-part-rises-start-2 : tie.Need-part-rises-start-2 Inv-loop μ-loop
-part-rises-start-2 c = omega arith
-
 part-rises-end-2 : tie.Need-part-rises-end-2 Inv-loop μ-loop
 part-rises-end-2 c = omega (arith, read (c .before) .inside)
-
-rises-requires : tie.Need-rises-requires Inv-loop μ-loop
-rises-requires c κs = search needs
 
 returns-2 : tie.Need-returns-2 Inv-loop μ-loop
 returns-2 c =
@@ -92,12 +65,6 @@ returns-2 c =
     (l .before .loop .inv .3
     ∙ entries-turn _ _ _ _ _ (l .loop-test .taken)
     ∙ rw (read k .holds, ← rises, not-true (c .before .rises .result) (c .if1 .taken)))
-
-add-i : tie.Need-add-i Inv-loop μ-loop
-add-i c = omega arith
-
-loop-less : tie.Need-loop-less Inv-loop μ-loop
-loop-less c = omega arith
 
 loop-again : tie.Need-loop-again Inv-loop μ-loop
 loop-again c =
@@ -123,21 +90,21 @@ entries-rise-spec =
     Inv-loop
     μ-loop
     loop-holds
-    entry-at-requires
-    enum-known-name-length
-    enum-told
+    (λ c κs. search needs)
+    (λ c. search needs)
+    (λ c. search needs)
     returns
     add-start
     add-end
-    sub-rises
-    part-rises-start
-    part-rises-end
-    sub-rises-2
-    part-rises-start-2
+    (λ c. omega arith)
+    (λ c. omega arith)
+    (λ c. omega arith)
+    (λ c. omega arith)
+    (λ c. omega arith)
     part-rises-end-2
-    rises-requires
+    (λ c κs. search needs)
     returns-2
-    add-i
-    loop-less
+    (λ c. omega arith)
+    (λ c. omega arith)
     loop-again
     returns-3)

@@ -10,15 +10,6 @@ use Rattle.symbols.proofs.Laws.{Read, read-broken, read-whole}
 use Rattle.symbols.proofs.entry_at.Statement.{statement}
 use Rattle.symbols.proofs.entry_at.Tie as tie
 
-whole-at-requires : tie.Need-whole-at-requires
-whole-at-requires c κs = search needs
-
-enum-known-name-length : tie.Need-enum-known-name-length
-enum-known-name-length c = search needs
-
-enum-told : tie.Need-enum-told
-enum-told c = search needs
-
 returns : tie.Need-returns
 unfolding entryAt entryIf
 returns c =
@@ -50,17 +41,8 @@ add-start c = omega (arith, read (c .before .before) .inside)
 add-end : tie.Need-add-end
 add-end c = omega (arith, read (c .before .before) .inside)
 
-sub-find-zero : tie.Need-sub-find-zero
-sub-find-zero c = search needs
-
-part-find-zero-start : tie.Need-part-find-zero-start
-part-find-zero-start c = search needs
-
 part-find-zero-end : tie.Need-part-find-zero-end
 part-find-zero-end c = omega (arith, read (c .before .before) .inside)
-
-find-zero-requires : tie.Need-find-zero-requires
-find-zero-requires c κs = search needs
 
 -- with a name of a right length it is an entry where no zero byte is found
 zero-decides :
@@ -74,15 +56,9 @@ zero-decides c =
     let found = rw (r .name) at (c .find-zero .ensures) in
     rw (r .holds, r .long, le-leb _ _ (e .before .if1 .left), le-leb _ _ (e .if2 .left), ← found)
 
-enum-told-2 : tie.Need-enum-told-2
-enum-told-2 c = search needs
-
 returns-4 : tie.Need-returns-4
 unfolding entryIf
 returns-4 c = rw (zero-decides (c .before .before), c .enum-told2 .given .1)
-
-enum-told-3 : tie.Need-enum-told-3
-enum-told-3 c = search needs
 
 returns-5 : tie.Need-returns-5
 unfolding entryIf
@@ -92,19 +68,19 @@ pub entry-at-spec : {M : Type 1} → statement M
 entry-at-spec =
     tie.close
     (tie.spec
-    whole-at-requires
-    enum-known-name-length
-    enum-told
+    (λ c κs. search needs)
+    (λ c. search needs)
+    (λ c. search needs)
     returns
     returns-2
     returns-3
     add-start
     add-end
-    sub-find-zero
-    part-find-zero-start
+    (λ c. search needs)
+    (λ c. search needs)
     part-find-zero-end
-    find-zero-requires
-    enum-told-2
+    (λ c κs. search needs)
+    (λ c. search needs)
     returns-4
-    enum-told-3
+    (λ c. search needs)
     returns-5)

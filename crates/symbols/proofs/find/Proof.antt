@@ -10,16 +10,10 @@ returns : tie.Need-returns
 unfolding lookup
 returns c = simp (lt-leb _ _ (c .if1 .taken))
 
-read-requires : tie.Need-read-requires
-read-requires c κs = search needs
-
-find-from-requires : tie.Need-find-from-requires
-find-from-requires c κs = search needs
-
 returns-2 : tie.Need-returns-2
 unfolding lookup
 returns-2 c =
     simp (le-leb _ _ (c .before .before .if1 .left), sym (c .before .read .ensures .0), c .find-from .ensures)
 
 pub find-spec : {M : Type 1} → statement M
-find-spec = tie.close (tie.spec returns read-requires find-from-requires returns-2)
+find-spec = tie.close (tie.spec returns (λ c κs. search needs) (λ c κs. search needs) returns-2)

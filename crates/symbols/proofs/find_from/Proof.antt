@@ -20,15 +20,6 @@ loop-holds c =
     let all : c .before .before .args .count - 0 ≡ c .before .before .args .count = omega arith in
     (omega arith, rw all)
 
-whole-at-requires : tie.Need-whole-at-requires Inv-loop μ-loop
-whole-at-requires c κs = search needs
-
-enum-known-name-length : tie.Need-enum-known-name-length Inv-loop μ-loop
-enum-known-name-length c = search needs
-
-enum-told : tie.Need-enum-told Inv-loop μ-loop
-enum-told c = search needs
-
 -- the list, and where the turn's entry begins
 module _ (c : tie.In-loop Inv-loop μ-loop) where
   abbrev list : List ℕ
@@ -56,17 +47,8 @@ add-start c = omega (arith, read c .inside)
 add-end : tie.Need-add-end Inv-loop μ-loop
 add-end c = omega (arith, read c .inside)
 
-sub-same : tie.Need-sub-same Inv-loop μ-loop
-sub-same c = search needs
-
-part-same-start : tie.Need-part-same-start Inv-loop μ-loop
-part-same-start c = search needs
-
 part-same-end : tie.Need-part-same-end Inv-loop μ-loop
 part-same-end c = omega (arith, read c .inside)
-
-same-requires : tie.Need-same-requires Inv-loop μ-loop
-same-requires c κs = search needs
 
 read-requires : tie.Need-read-requires Inv-loop μ-loop
 read-requires c κs = omega (arith, read (c .before .before .before) .inside)
@@ -80,12 +62,6 @@ returns-2 c =
     (l .before .loop .inv .1
     ∙ lookup-turn _ _ _ _ _ (l .loop-test .taken)
     ∙ rw (read k .holds, ← same, c .before .if1 .taken, ← c .read .ensures .0))
-
-add-i : tie.Need-add-i Inv-loop μ-loop
-add-i c = omega arith
-
-loop-less : tie.Need-loop-less Inv-loop μ-loop
-loop-less c = omega arith
 
 loop-again : tie.Need-loop-again Inv-loop μ-loop
 loop-again c =
@@ -108,19 +84,19 @@ find-from-spec =
     Inv-loop
     μ-loop
     loop-holds
-    whole-at-requires
-    enum-known-name-length
-    enum-told
+    (λ c κs. search needs)
+    (λ c. search needs)
+    (λ c. search needs)
     returns
     add-start
     add-end
-    sub-same
-    part-same-start
+    (λ c. search needs)
+    (λ c. search needs)
     part-same-end
-    same-requires
+    (λ c κs. search needs)
     read-requires
     returns-2
-    add-i
-    loop-less
+    (λ c. omega arith)
+    (λ c. omega arith)
     loop-again
     returns-3)

@@ -10,12 +10,6 @@ returns : tie.Need-returns
 unfolding valid
 returns c = simp (lt-leb _ _ (c .if1 .taken))
 
-read-requires : tie.Need-read-requires
-read-requires c κs = search needs
-
-add-if2 : tie.Need-add-if2
-add-if2 c = search needs
-
 returns-2 : tie.Need-returns-2
 unfolding valid
 returns-2 c =
@@ -24,9 +18,6 @@ returns-2 c =
       sym (c .before .read .ensures .0),
       ne-eqb _ _ (c .if2 .taken),
     )
-
-shared-slice-read-if3 : tie.Need-shared-slice-read-if3
-shared-slice-read-if3 c = search needs
 
 returns-3 : tie.Need-returns-3
 unfolding valid
@@ -37,12 +28,6 @@ returns-3 c =
       eq-eqb _ _ (c .before .before .if2 .left),
       ne-eqb _ _ (c .if3 .taken),
     )
-
-read-requires-2 : tie.Need-read-requires-2
-read-requires-2 c κs = search needs
-
-entries-rise-requires : tie.Need-entries-rise-requires
-entries-rise-requires c κs = search needs
 
 returns-4 : tie.Need-returns-4
 unfolding valid
@@ -61,11 +46,11 @@ is-valid-spec =
     tie.close
     (tie.spec
     returns
-    read-requires
-    add-if2
+    (λ c κs. search needs)
+    (λ c. search needs)
     returns-2
-    shared-slice-read-if3
+    (λ c. search needs)
     returns-3
-    read-requires-2
-    entries-rise-requires
+    (λ c κs. search needs)
+    (λ c κs. search needs)
     returns-4)

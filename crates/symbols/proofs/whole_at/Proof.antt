@@ -13,29 +13,14 @@ returns c =
     let a = c .before .args in
     rw (head-fails (a .list .now) (a .at) (omega arith))
 
-sub-if2 : tie.Need-sub-if2
-sub-if2 c = search needs
-
 returns-2 : tie.Need-returns-2
 unfolding entryIf
 returns-2 c =
     let a = c .before .before .args in
     rw (head-fails (a .list .now) (a .at) (omega arith))
 
-add-name-length : tie.Need-add-name-length
-add-name-length c = search needs
-
-shared-slice-read-name-length : tie.Need-shared-slice-read-name-length
-shared-slice-read-name-length c = search needs
-
 cast-name-length : tie.Need-cast-name-length
 cast-name-length c = omega (arith, c .shared-slice-known .given (c .before .before .before .args .at + 8))
-
-sub-if3 : tie.Need-sub-if3
-sub-if3 c = search needs
-
-sub-if3-2 : tie.Need-sub-if3-2
-sub-if3-2 c = search needs
 
 returns-3 : tie.Need-returns-3
 unfolding entryIf
@@ -54,12 +39,12 @@ whole-at-spec =
     tie.close
     (tie.spec
     returns
-    sub-if2
+    (λ c. search needs)
     returns-2
-    add-name-length
-    shared-slice-read-name-length
+    (λ c. search needs)
+    (λ c. search needs)
     cast-name-length
-    sub-if3
-    sub-if3-2
+    (λ c. search needs)
+    (λ c. search needs)
     returns-3
     returns-4)

@@ -7,15 +7,9 @@ use borrow.Author.Needs.{needs}
 use Rattle.abi.proofs.check.urddolwy_check_file.Statement.{statement}
 use Rattle.abi.proofs.check.urddolwy_check_file.Tie as tie
 
-read-requires : tie.Need-read-requires
-read-requires c κs = search needs
-
-code-requires : tie.Need-code-requires
-code-requires c κs = search needs
-
 returns : tie.Need-returns
 unfolding fileAnswer
 returns c = c .code .ensures ∙ rw (c .before .read .ensures) (ap verdictCode (verdict-read (c .before .before .before .args .file .now)))
 
 pub urddolwy-check-file-spec : {M : Type 1} → statement M
-urddolwy-check-file-spec = tie.close (tie.spec read-requires code-requires returns)
+urddolwy-check-file-spec = tie.close (tie.spec (λ c κs. search needs) (λ c κs. search needs) returns)

@@ -6,15 +6,9 @@ use borrow.Author.Needs.{needs}
 use Rattle.abi.proofs.check.urddolwy_check_symbols.Statement.{statement}
 use Rattle.abi.proofs.check.urddolwy_check_symbols.Tie as tie
 
-check-requires : tie.Need-check-requires
-check-requires c κs = search needs
-
-code-requires : tie.Need-code-requires
-code-requires c κs = search needs
-
 returns : tie.Need-returns
 unfolding listAnswer
 returns c = c .code .ensures ∙ ap verdictCode (c .before .check .ensures)
 
 pub urddolwy-check-symbols-spec : {M : Type 1} → statement M
-urddolwy-check-symbols-spec = tie.close (tie.spec check-requires code-requires returns)
+urddolwy-check-symbols-spec = tie.close (tie.spec (λ c κs. search needs) (λ c κs. search needs) returns)

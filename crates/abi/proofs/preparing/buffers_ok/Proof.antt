@@ -10,22 +10,13 @@ returns : tie.Need-returns
 unfolding buffersOk
 returns c = simp (ne-eqb _ _ (c .if1 .taken))
 
-mul-if2 : tie.Need-mul-if2
-mul-if2 c = search needs
-
 returns-2 : tie.Need-returns-2
 unfolding buffersOk
 returns-2 c = simp (ne-eqb _ _ (c .if2 .taken), and-false)
-
-mul-result : tie.Need-mul-result
-mul-result c = search needs
-
-add-result : tie.Need-add-result
-add-result c = search needs
 
 returns-3 : tie.Need-returns-3
 unfolding buffersOk
 returns-3 c = simp (eq-eqb _ _ (c .before .if1 .left), eq-eqb _ _ (c .if2 .left))
 
 pub buffers-ok-spec : {M : Type 1} → statement M
-buffers-ok-spec = tie.close (tie.spec returns mul-if2 returns-2 mul-result add-result returns-3)
+buffers-ok-spec = tie.close (tie.spec returns (λ c. search needs) returns-2 (λ c. search needs) (λ c. search needs) returns-3)

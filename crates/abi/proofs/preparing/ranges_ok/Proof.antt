@@ -17,9 +17,6 @@ returns-2 : tie.Need-returns-2
 unfolding rangesOk
 returns-2 c = simp (lt-leb _ _ (c .if2 .taken), and-false)
 
-sub-if3 : tie.Need-sub-if3
-sub-if3 c = search needs
-
 returns-3 : tie.Need-returns-3
 unfolding rangesOk
 returns-3 c =
@@ -30,12 +27,6 @@ returns-3 c =
 returns-4 : tie.Need-returns-4
 unfolding rangesOk
 returns-4 c = simp (lt-leb _ _ (c .if4 .taken), and-false)
-
-sub-if5 : tie.Need-sub-if5
-sub-if5 c = search needs
-
-sub-if5-2 : tie.Need-sub-if5-2
-sub-if5-2 c = search needs
 
 returns-5 : tie.Need-returns-5
 unfolding rangesOk
@@ -61,4 +52,4 @@ returns-6 c =
 pub ranges-ok-spec : {M : Type 1} → statement M
 ranges-ok-spec =
     tie.close
-    (tie.spec returns returns-2 sub-if3 returns-3 returns-4 sub-if5 sub-if5-2 returns-5 returns-6)
+    (tie.spec returns returns-2 (λ c. search needs) returns-3 returns-4 (λ c. search needs) (λ c. search needs) returns-5 returns-6)

@@ -46,16 +46,10 @@ whole :
     left answer slot edits summary ≡ callOf (aim s) (file-of s) (slot-of s) (edits-of s) (summary-of s) → Owed s answer slot edits summary
 whole s same = owed (aim s) (file-of s) (slot-of s) (edits-of s) (summary-of s) _ _ _ _ same
 
-buffers-ok-requires : tie.Need-buffers-ok-requires
-buffers-ok-requires c κs = search needs
-
 returns : tie.Need-returns
 returns c =
     let s = c .before .before .before .before .before .before .before in
     whole s (sym (wrong-call (aim s) (file-of s) (slot-of s) (edits-of s) (summary-of s) (rw (refuted (c .before .buffers-ok .ensures) (c .if1 .taken)))))
-
-ranges-ok-requires : tie.Need-ranges-ok-requires
-ranges-ok-requires c κs = search needs
 
 -- the ranges, whatever the list is
 in-ranges : (c : tie.After-ranges-ok) → c .ranges-ok .result ≡ rangesOk (aim (c .before .before .before .before .before .before .before .before))
@@ -83,27 +77,12 @@ module _ (c : tie.Else2) where
   right : (buffersOk (length (slot-of start)) (length (edits-of start)) (length (summary-of start)) && rangesOk (aim start)) ≡ true
   right = rw (buffers, ranges)
 
-is-valid-requires : tie.Need-is-valid-requires
-is-valid-requires c κs = search needs
-
 returns-3 : tie.Need-returns-3
 returns-3 c =
     let sized = c .before .before in
     let s = start sized in
     whole s
     (sym (wrong-list (aim s) (file-of s) (slot-of s) (edits-of s) (summary-of s) (right sized) (refuted (c .before .is-valid .ensures) (c .if3 .taken))))
-
-prepare-requires : tie.Need-prepare-requires
-prepare-requires c κs = search needs
-
-enum-known-verdict : tie.Need-enum-known-verdict
-enum-known-verdict c = search needs
-
-code-requires : tie.Need-code-requires
-code-requires c κs = search needs
-
-same-length : tie.Need-same-length
-same-length c = search needs
 
 -- what the preparation answered
 module _ (c : tie.After-prepare) where
@@ -143,9 +122,6 @@ returns-4 c =
     (ap (λ (x : Outcome). x .image) (outcome-is (aim s) (file-of s) (slot-of s) (answer preparing) _ (prepared preparing) _ told)) refl refl
     ∙ sym (by-rules preparing _ told))
 
-enum-told : tie.Need-enum-told
-enum-told c = search needs
-
 -- the payload is accepted
 module _ (c : tie.After-enum-told) where
   abbrev preparing : tie.After-prepare
@@ -180,15 +156,6 @@ write-summary-requires c κs =
     let accepted = c .before .before .before .before .before .before .before .before in
     buffers-told _ _ _ (buffers (sized (preparing accepted))) .2
 
-same-length-2 : tie.Need-same-length-2
-same-length-2 c = search needs
-
-same-length-3 : tie.Need-same-length-3
-same-length-3 c = search needs
-
-same-length-4 : tie.Need-same-length-4
-same-length-4 c = search needs
-
 returns-5 : tie.Need-returns-5
 returns-5 c =
     let accepted = c .before .before .before .before .before .before .before .before .before .before .before in
@@ -203,21 +170,21 @@ pub urddolwy-prepare-spec : {M : Type 1} → statement M
 urddolwy-prepare-spec =
     tie.close
     (tie.spec
-    buffers-ok-requires
+    (λ c κs. search needs)
     returns
-    ranges-ok-requires
+    (λ c κs. search needs)
     returns-2
-    is-valid-requires
+    (λ c κs. search needs)
     returns-3
-    prepare-requires
-    enum-known-verdict
-    code-requires
-    same-length
+    (λ c κs. search needs)
+    (λ c. search needs)
+    (λ c κs. search needs)
+    (λ c. search needs)
     returns-4
-    enum-told
+    (λ c. search needs)
     write-edits-requires
     write-summary-requires
-    same-length-2
-    same-length-3
-    same-length-4
+    (λ c. search needs)
+    (λ c. search needs)
+    (λ c. search needs)
     returns-5)

@@ -11,9 +11,6 @@ use Rattle.functions.proofs.FunctionLaws.{lies, fill-holds}
 use Rattle.functions.proofs.edits.edit_from.Statement.{statement}
 use Rattle.functions.proofs.edits.edit_from.Tie as tie
 
-form-ok-requires : tie.Need-form-ok-requires
-form-ok-requires c κs = search needs
-
 -- where the tests of the form and of the text have passed
 well-formed :
     (c : tie.Else1) → let a = c .before .before .before .args in
@@ -34,15 +31,9 @@ returns : tie.Need-returns
 unfolding editFrom
 returns c = rw (refuted (c .before .form-ok .ensures) (c .if1 .taken))
 
-lies-in-requires : tie.Need-lies-in-requires
-lies-in-requires c κs = search needs
-
 returns-2 : tie.Need-returns-2
 unfolding editFrom
 returns-2 c = rw (well-formed (c .before .before), refuted (c .before .lies-in .ensures) (c .if2 .taken))
-
-fill-ok-requires : tie.Need-fill-ok-requires
-fill-ok-requires c κs = search needs
 
 returns-3 : tie.Need-returns-3
 unfolding editFrom
@@ -70,9 +61,6 @@ returns-4 c =
       held (c .before .before .fill-ok .ensures) (c .before .if4 .left),
     )
 
-jump-ok-requires : tie.Need-jump-ok-requires
-jump-ok-requires c κs = search needs
-
 returns-5 : tie.Need-returns-5
 unfolding editFrom
 returns-5 c =
@@ -98,17 +86,17 @@ pub edit-from-spec : {M : Type 1} → statement M
 edit-from-spec =
     tie.close
     (tie.spec
-    form-ok-requires
+    (λ c κs. search needs)
     returns
-    lies-in-requires
+    (λ c κs. search needs)
     returns-2
-    fill-ok-requires
+    (λ c κs. search needs)
     returns-3
     sub-t15
     cast-t16
     cast-t17
     returns-4
-    jump-ok-requires
+    (λ c κs. search needs)
     returns-5
     jump-edit-requires
     returns-6)

@@ -9,9 +9,6 @@ use Rattle.functions.proofs.FunctionLaws.{sizes-known}
 use Rattle.functions.proofs.edits.fill_ok.Statement.{statement}
 use Rattle.functions.proofs.edits.fill_ok.Tie as tie
 
-machine-sizes-requires : tie.Need-machine-sizes-requires
-machine-sizes-requires c κs = search needs
-
 returns : tie.Need-returns
 unfolding fillOk
 returns c = simp (lt-leb _ _ (c .if1 .taken))
@@ -33,4 +30,4 @@ returns-3 c =
     simp (le-leb _ _ (c .before .before .before .before .if1 .left), le-leb _ _ short)
 
 pub fill-ok-spec : {M : Type 1} → statement M
-fill-ok-spec = tie.close (tie.spec machine-sizes-requires returns returns-2 returns-3)
+fill-ok-spec = tie.close (tie.spec (λ c κs. search needs) returns returns-2 returns-3)

@@ -9,9 +9,6 @@ use Rattle.functions.proofs.FunctionLaws.{sizes-known}
 use Rattle.functions.proofs.edits.jump_ok.Statement.{statement}
 use Rattle.functions.proofs.edits.jump_ok.Tie as tie
 
-machine-sizes-requires : tie.Need-machine-sizes-requires
-machine-sizes-requires c κs = search needs
-
 returns : tie.Need-returns
 unfolding jumpOk
 returns c = simp (lt-leb _ _ (c .if1 .taken))
@@ -24,9 +21,6 @@ returns-2 c =
     let short : f .«old_size» < jumpLength = omega (arith, known, c .if2 .taken) in
     simp (le-leb _ _ (c .before .before .before .if1 .left), lt-leb _ _ short)
 
-lies-in-requires : tie.Need-lies-in-requires
-lies-in-requires c κs = search needs
-
 returns-3 : tie.Need-returns-3
 unfolding jumpOk
 returns-3 c =
@@ -37,4 +31,4 @@ returns-3 c =
 
 pub jump-ok-spec : {M : Type 1} → statement M
 jump-ok-spec =
-    tie.close (tie.spec machine-sizes-requires returns returns-2 lies-in-requires returns-3)
+    tie.close (tie.spec (λ c κs. search needs) returns returns-2 (λ c κs. search needs) returns-3)

@@ -14,15 +14,6 @@ use Rattle.elf.specs.Name.{nameIn}
 use Rattle.functions.proofs.function.listed_address.Statement.{statement}
 use Rattle.functions.proofs.function.listed_address.Tie as tie
 
-name-end-requires : tie.Need-name-end-requires
-name-end-requires c κs = search needs
-
-enum-known-end : tie.Need-enum-known-end
-enum-known-end c = search needs
-
-enum-told : tie.Need-enum-told
-enum-told c = search needs
-
 returns : tie.Need-returns
 unfolding nameIn
 returns c = rw (← c .before .before .name-end .ensures, c .enum-told .given .1)
@@ -54,30 +45,12 @@ returns-2 : tie.Need-returns-2
 unfolding nameIn
 returns-2 c = rw (ended (c .before), size (c .before), lt-leb _ _ (c .if1 .taken))
 
-sub-if2 : tie.Need-sub-if2
-sub-if2 c = search needs
-
 returns-3 : tie.Need-returns-3
 unfolding nameIn
 returns-3 c = rw (ended (c .before .before), size (c .before .before), le-leb _ _ (c .before .if1 .left), lt-leb _ _ (c .if2 .taken))
 
-sub-find : tie.Need-sub-find
-sub-find c = search needs
-
-part-find-start : tie.Need-part-find-start
-part-find-start c = search needs
-
 part-find-end : tie.Need-part-find-end
 part-find-end c = omega (arith, first-zero (c .before .before) .high)
-
-find-requires : tie.Need-find-requires
-find-requires c κs = search needs
-
-enum-known-a : tie.Need-enum-known-a
-enum-known-a c = search needs
-
-enum-told-2 : tie.Need-enum-told-2
-enum-told-2 c = search needs
 
 returns-4 : tie.Need-returns-4
 unfolding nameIn part
@@ -109,19 +82,19 @@ pub listed-address-spec : {M : Type 1} → statement M
 listed-address-spec =
     tie.close
     (tie.spec
-    name-end-requires
-    enum-known-end
-    enum-told
+    (λ c κs. search needs)
+    (λ c. search needs)
+    (λ c. search needs)
     returns
     sub-if1
     returns-2
-    sub-if2
+    (λ c. search needs)
     returns-3
-    sub-find
-    part-find-start
+    (λ c. search needs)
+    (λ c. search needs)
     part-find-end
-    find-requires
-    enum-known-a
-    enum-told-2
+    (λ c κs. search needs)
+    (λ c. search needs)
+    (λ c. search needs)
     returns-4
     returns-5)

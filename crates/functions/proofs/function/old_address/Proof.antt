@@ -17,9 +17,6 @@ returns-3 : tie.Need-returns-3
 unfolding oldAddressOf
 returns-3 c = simp (eq-eqb _ _ (c .before .before .if1 .left), le-leb _ _ (c .before .if2 .left), le-ltb _ _ (c .if3 .taken))
 
-listed-address-requires : tie.Need-listed-address-requires
-listed-address-requires c κs = search needs
-
 returns-4 : tie.Need-returns-4
 unfolding oldAddressOf
 returns-4 c =
@@ -32,4 +29,4 @@ returns-4 c =
 
 pub old-address-spec : {M : Type 1} → statement M
 old-address-spec =
-    tie.close (tie.spec returns returns-2 returns-3 listed-address-requires returns-4)
+    tie.close (tie.spec returns returns-2 returns-3 (λ c κs. search needs) returns-4)

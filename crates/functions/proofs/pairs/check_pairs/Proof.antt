@@ -29,29 +29,8 @@ abbrev μ-pairs : tie.MeasureT-pairs
 pairs-holds : tie.Need-pairs-holds Inv-loop μ-loop Inv-pairs μ-pairs
 pairs-holds c = (omega arith, begin _ _ _)
 
-mul-later : tie.Need-mul-later Inv-loop μ-loop Inv-pairs μ-pairs
-mul-later c = omega arith
-
-array-copy-out-later : tie.Need-array-copy-out-later Inv-loop μ-loop Inv-pairs μ-pairs
-array-copy-out-later c = omega arith
-
 loop-holds : tie.Need-loop-holds Inv-loop μ-loop Inv-pairs μ-pairs
 loop-holds c = (omega arith, begin _ _ _)
-
-mul-earlier : tie.Need-mul-earlier Inv-loop μ-loop Inv-pairs μ-pairs
-mul-earlier c = omega arith
-
-array-copy-out-earlier : tie.Need-array-copy-out-earlier Inv-loop μ-loop Inv-pairs μ-pairs
-array-copy-out-earlier c = omega arith
-
-touching-requires : tie.Need-touching-requires Inv-loop μ-loop Inv-pairs μ-pairs
-touching-requires c κs = search needs
-
-add-i : tie.Need-add-i Inv-loop μ-loop Inv-pairs μ-pairs
-add-i c = omega arith
-
-loop-less : tie.Need-loop-less Inv-loop μ-loop Inv-pairs μ-pairs
-loop-less c = omega arith
 
 loop-again : tie.Need-loop-again Inv-loop μ-loop Inv-pairs μ-pairs
 loop-again c =
@@ -64,12 +43,6 @@ loop-again c =
           ∙ rw (copied es i within, ← c .before .touching .ensures, c .if1 .left),
     )
 
-add-j : tie.Need-add-j Inv-loop μ-loop Inv-pairs μ-pairs
-add-j c = omega arith
-
-pairs-less : tie.Need-pairs-less Inv-loop μ-loop Inv-pairs μ-pairs
-pairs-less c = omega arith
-
 pairs-again : tie.Need-pairs-again Inv-loop μ-loop Inv-pairs μ-pairs
 pairs-again c =
     let es = c .before .before .before .before .before .args .t1 in
@@ -80,9 +53,6 @@ pairs-again c =
           ∙ turn _ _ _ _ (c .before .before .before .pairs-test .taken)
           ∙ rw (copied es j within, c .before .loop .inv .1, end _ _ _ _ (c .loop-test .left)),
     )
-
-cast-t21 : tie.Need-cast-t21 Inv-loop μ-loop Inv-pairs μ-pairs
-cast-t21 c = omega arith
 
 by-way : {A B P : Type 0} → A ⊎ B → (A → P) → (B → P) → P
 by-way w f g = ⊎-elim f g w
@@ -115,18 +85,18 @@ check-pairs-spec =
     Inv-pairs
     μ-pairs
     pairs-holds
-    mul-later
-    array-copy-out-later
+    (λ c. omega arith)
+    (λ c. omega arith)
     loop-holds
-    mul-earlier
-    array-copy-out-earlier
-    touching-requires
-    add-i
-    loop-less
+    (λ c. omega arith)
+    (λ c. omega arith)
+    (λ c κs. search needs)
+    (λ c. omega arith)
+    (λ c. omega arith)
     loop-again
-    add-j
-    pairs-less
+    (λ c. omega arith)
+    (λ c. omega arith)
     pairs-again
-    cast-t21
+    (λ c. omega arith)
     returns
     returns-2)

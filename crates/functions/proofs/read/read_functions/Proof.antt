@@ -53,24 +53,6 @@ all-made c =
 loop-holds : tie.Need-loop-holds Inv-loop μ-loop
 loop-holds c = (omega arith, fill-begin _ _ 16, begin _ _ _)
 
-mul-edit-of : tie.Need-mul-edit-of Inv-loop μ-loop
-mul-edit-of c = omega arith
-
-add-edit-of : tie.Need-add-edit-of Inv-loop μ-loop
-add-edit-of c = omega arith
-
-edit-of-requires : tie.Need-edit-of-requires Inv-loop μ-loop
-edit-of-requires c κs = omega arith
-
-enum-known-reason : tie.Need-enum-known-reason Inv-loop μ-loop
-enum-known-reason c = search needs
-
-cast-t20 : tie.Need-cast-t20 Inv-loop μ-loop
-cast-t20 c = omega arith
-
-refuse-requires : tie.Need-refuse-requires Inv-loop μ-loop
-refuse-requires c κs = search needs
-
 returns : tie.Need-returns Inv-loop μ-loop
 unfolding functionsOf functionRules
 returns c =
@@ -83,21 +65,6 @@ returns c =
       c .before .before .reason .given .1,
     )
 
-enum-known-e : tie.Need-enum-known-e Inv-loop μ-loop
-enum-known-e c = search needs
-
-mul-table : tie.Need-mul-table Inv-loop μ-loop
-mul-table c = omega arith
-
-array-set-from-table : tie.Need-array-set-from-table Inv-loop μ-loop
-array-set-from-table c = omega arith
-
-add-r : tie.Need-add-r Inv-loop μ-loop
-add-r c = omega arith
-
-loop-less : tie.Need-loop-less Inv-loop μ-loop
-loop-less c = omega arith
-
 loop-again : tie.Need-loop-again Inv-loop μ-loop
 loop-again c =
     let l = c .before .before .before .before .before .loop in
@@ -109,23 +76,11 @@ loop-again c =
       l .inv .2 ∙ turn _ _ _ _ (c .before .before .before .before .loop-test .taken) ∙ rw made,
     )
 
-check-pairs-requires : tie.Need-check-pairs-requires Inv-loop μ-loop
-check-pairs-requires c κs = omega arith
-
-enum-known-apart : tie.Need-enum-known-apart Inv-loop μ-loop
-enum-known-apart c = search needs
-
-refuse-requires-2 : tie.Need-refuse-requires-2 Inv-loop μ-loop
-refuse-requires-2 c κs = search needs
-
 returns-2 : tie.Need-returns-2 Inv-loop μ-loop
 unfolding functionsOf functionRules
 returns-2 c =
     let o = c .before .before .before .before .before in
     rw (c .refuse2 .ensures, all-pass o, ← all-made o, ← c .before .before .before .before .check-pairs .ensures, c .before .before .apart .given .1)
-
-enum-told : tie.Need-enum-told Inv-loop μ-loop
-enum-told c = search needs
 
 returns-3 : tie.Need-returns-3 Inv-loop μ-loop
 unfolding functionsOf functionRules
@@ -140,22 +95,22 @@ read-functions-spec =
     Inv-loop
     μ-loop
     loop-holds
-    mul-edit-of
-    add-edit-of
-    edit-of-requires
-    enum-known-reason
-    cast-t20
-    refuse-requires
+    (λ c. omega arith)
+    (λ c. omega arith)
+    (λ c κs. omega arith)
+    (λ c. search needs)
+    (λ c. omega arith)
+    (λ c κs. search needs)
     returns
-    enum-known-e
-    mul-table
-    array-set-from-table
-    add-r
-    loop-less
+    (λ c. search needs)
+    (λ c. omega arith)
+    (λ c. omega arith)
+    (λ c. omega arith)
+    (λ c. omega arith)
     loop-again
-    check-pairs-requires
-    enum-known-apart
-    refuse-requires-2
+    (λ c κs. omega arith)
+    (λ c. search needs)
+    (λ c κs. search needs)
     returns-2
-    enum-told
+    (λ c. search needs)
     returns-3)

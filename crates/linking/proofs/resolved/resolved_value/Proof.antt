@@ -8,18 +8,6 @@ use Rattle.linking.proofs.resolved.resolved_value.Tie as tie
 returns : tie.Need-returns
 returns c = λ l r. told-past l r _ (c .if1 .taken)
 
-mul-value : tie.Need-mul-value
-mul-value c = search needs
-
-element-copy-out-value : tie.Need-element-copy-out-value
-element-copy-out-value c = search needs
-
-mul-fault : tie.Need-mul-fault
-mul-fault c = search needs
-
-element-copy-out-fault : tie.Need-element-copy-out-fault
-element-copy-out-fault c = search needs
-
 returns-2 : tie.Need-returns-2
 returns-2 c = λ l r. rw (c .match .keys1) at (told-at l r _ (c .before .before .before .if1 .left))
 
@@ -39,10 +27,10 @@ resolved-value-spec =
     tie.close
     (tie.spec
     returns
-    mul-value
-    element-copy-out-value
-    mul-fault
-    element-copy-out-fault
+    (λ c. search needs)
+    (λ c. search needs)
+    (λ c. search needs)
+    (λ c. search needs)
     returns-2
     returns-3
     returns-4

@@ -9,27 +9,9 @@ returns : tie.Need-returns
 unfolding definedIn
 returns c = rw (le-ltb _ _ (c .if1 .taken))
 
-mul-if2 : tie.Need-mul-if2
-mul-if2 c = search needs
-
-shared-slice-read-if2 : tie.Need-shared-slice-read-if2
-shared-slice-read-if2 c = search needs
-
 returns-2 : tie.Need-returns-2
 unfolding definedIn
 returns-2 c = rw (lt-ltb _ _ (c .before .before .if1 .left), le-ltb _ _ (c .if2 .taken))
-
-mul-add : tie.Need-mul-add
-mul-add c = search needs
-
-shared-slice-read-add : tie.Need-shared-slice-read-add
-shared-slice-read-add c = search needs
-
-add-requires : tie.Need-add-requires
-add-requires c κs = search needs
-
-add-requires-2 : tie.Need-add-requires-2
-add-requires-2 c κs = search needs
 
 returns-3 : tie.Need-returns-3
 unfolding definedIn
@@ -42,11 +24,11 @@ defined-value-spec =
     tie.close
     (tie.spec
     returns
-    mul-if2
-    shared-slice-read-if2
+    (λ c. search needs)
+    (λ c. search needs)
     returns-2
-    mul-add
-    shared-slice-read-add
-    add-requires
-    add-requires-2
+    (λ c. search needs)
+    (λ c. search needs)
+    (λ c κs. search needs)
+    (λ c κs. search needs)
     returns-3)

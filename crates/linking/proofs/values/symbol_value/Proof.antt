@@ -36,27 +36,12 @@ returns : tie.Need-returns
 unfolding symbolValue
 returns c = rw (eq-eqb _ 0 (c .if1 .taken))
 
-mul-symbol-at : tie.Need-mul-symbol-at
-mul-symbol-at c = search needs
-
-symbol-at-requires : tie.Need-symbol-at-requires
-symbol-at-requires c κs = search needs
-
-enum-known-s : tie.Need-enum-known-s
-enum-known-s c = search needs
-
-enum-told : tie.Need-enum-told
-enum-told c = search needs
-
 returns-2 : tie.Need-returns-2
 unfolding symbolValue
 returns-2 c =
     let read = c .before .before in
     let none = outside _ _ (sym (read .symbol-at .ensures) ∙ c .enum-told .given .1) in
     rw (ne-eqb _ 0 (read .before .if1 .left), none)
-
-value-by-requires : tie.Need-value-by-requires
-value-by-requires c κs = search needs
 
 returns-3 : tie.Need-returns-3
 unfolding symbolValue
@@ -71,10 +56,10 @@ symbol-value-spec =
     tie.close
     (tie.spec
     returns
-    mul-symbol-at
-    symbol-at-requires
-    enum-known-s
-    enum-told
+    (λ c. search needs)
+    (λ c κs. search needs)
+    (λ c. search needs)
+    (λ c. search needs)
     returns-2
-    value-by-requires
+    (λ c κs. search needs)
     returns-3)

@@ -8,15 +8,6 @@ use Rattle.elf.specs.Name.{nameIn}
 use Rattle.linking.proofs.values.undefined_value.Statement.{statement}
 use Rattle.linking.proofs.values.undefined_value.Tie as tie
 
-name-end-requires : tie.Need-name-end-requires
-name-end-requires c κs = search needs
-
-enum-known-end : tie.Need-enum-known-end
-enum-known-end c = search needs
-
-enum-told : tie.Need-enum-told
-enum-told c = search needs
-
 returns : tie.Need-returns
 unfolding nameIn
 returns c = rw (← c .before .before .name-end .ensures, c .enum-told .given .1)
@@ -37,15 +28,6 @@ part-find-start c = omega (arith, ended c)
 part-find-end : tie.Need-part-find-end
 part-find-end c = omega (arith, ended c)
 
-find-requires : tie.Need-find-requires
-find-requires c κs = search needs
-
-enum-known-a : tie.Need-enum-known-a
-enum-known-a c = search needs
-
-enum-told-2 : tie.Need-enum-told-2
-enum-told-2 c = search needs
-
 returns-2 : tie.Need-returns-2
 unfolding nameIn part
 returns-2 c =
@@ -64,15 +46,15 @@ pub undefined-value-spec : {M : Type 1} → statement M
 undefined-value-spec =
     tie.close
     (tie.spec
-    name-end-requires
-    enum-known-end
-    enum-told
+    (λ c κs. search needs)
+    (λ c. search needs)
+    (λ c. search needs)
     returns
     sub-find
     part-find-start
     part-find-end
-    find-requires
-    enum-known-a
-    enum-told-2
+    (λ c κs. search needs)
+    (λ c. search needs)
+    (λ c. search needs)
     returns-2
     returns-3)

@@ -9,9 +9,6 @@ returns : tie.Need-returns
 unfolding valueBy
 returns c = rw (eq-eqb _ 0xfff1 (c .if1 .taken))
 
-undefined-value-requires : tie.Need-undefined-value-requires
-undefined-value-requires c κs = search needs
-
 returns-2 : tie.Need-returns-2
 unfolding valueBy
 returns-2 c =
@@ -20,9 +17,6 @@ returns-2 c =
 returns-3 : tie.Need-returns-3
 unfolding valueBy
 returns-3 c = rw (ne-eqb _ 0xfff1 (c .before .before .if1 .left), ne-eqb _ 0 (c .before .if2 .left), le-leb 0xff00 _ (c .if3 .taken))
-
-defined-value-requires : tie.Need-defined-value-requires
-defined-value-requires c κs = search needs
 
 returns-4 : tie.Need-returns-4
 unfolding valueBy
@@ -36,8 +30,8 @@ value-by-spec =
     tie.close
     (tie.spec
     returns
-    undefined-value-requires
+    (λ c κs. search needs)
     returns-2
     returns-3
-    defined-value-requires
+    (λ c κs. search needs)
     returns-4)

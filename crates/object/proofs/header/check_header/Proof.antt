@@ -16,21 +16,9 @@ returns-2 : tie.Need-returns-2
 unfolding headerRules sizeOk
 returns-2 c = simp (lt-leb _ _ (c .if2 .taken), and-false)
 
-read-file-header-requires : tie.Need-read-file-header-requires
-read-file-header-requires c κs = search needs
-
-fields-ok-requires : tie.Need-fields-ok-requires
-fields-ok-requires c κs = search needs
-
 returns-3 : tie.Need-returns-3
 unfolding headerRules
 returns-3 c = simp (sym (c .before .before .read-file-header .ensures .0), refuted (c .before .fields-ok .ensures) (c .if3 .taken), and-false)
-
-mul-lies-within : tie.Need-mul-lies-within
-mul-lies-within c = search needs
-
-lies-within-requires : tie.Need-lies-within-requires
-lies-within-requires c κs = search needs
 
 returns-4 : tie.Need-returns-4
 unfolding headerRules
@@ -59,10 +47,10 @@ check-header-spec =
     (tie.spec
     returns
     returns-2
-    read-file-header-requires
-    fields-ok-requires
+    (λ c κs. search needs)
+    (λ c κs. search needs)
     returns-3
-    mul-lies-within
-    lies-within-requires
+    (λ c. search needs)
+    (λ c κs. search needs)
     returns-4
     returns-5)

@@ -6,9 +6,6 @@ use Rattle.words.proofs.Tests.{held, refuted}
 use Rattle.object.proofs.kinds.allocated_kind.Statement.{statement}
 use Rattle.object.proofs.kinds.allocated_kind.Tie as tie
 
-is-placed-name-requires : tie.Need-is-placed-name-requires
-is-placed-name-requires c κs = search needs
-
 returns : tie.Need-returns
 returns c = simp (refuted (c .before .is-placed-name .ensures) (c .if1 .taken), and-false)
 
@@ -46,4 +43,4 @@ returns-5 c =
 
 pub allocated-kind-spec : {M : Type 1} → statement M
 allocated-kind-spec =
-    tie.close (tie.spec is-placed-name-requires returns returns-2 returns-3 returns-4 returns-5)
+    tie.close (tie.spec (λ c κs. search needs) returns returns-2 returns-3 returns-4 returns-5)

@@ -9,9 +9,6 @@ use Rattle.object.proofs.KindLaws.{long-enough, one-more, by-dot}
 use Rattle.object.proofs.kinds.in_family.Statement.{statement}
 use Rattle.object.proofs.kinds.in_family.Tie as tie
 
-starts-with-requires : tie.Need-starts-with-requires
-starts-with-requires c κs = search needs
-
 returns : tie.Need-returns
 unfolding inFamily
 returns c = simp (refuted (c .before .starts-with .ensures) (c .if1 .taken))
@@ -26,9 +23,6 @@ sub-if3 c = long-enough _ _ (held (c .before .before .starts-with .ensures) (c .
 returns-3 : tie.Need-returns-3
 returns-3 c = sym (one-more _ _ (c .before .if2 .left) (omega arith))
 
-shared-slice-read-result : tie.Need-shared-slice-read-result
-shared-slice-read-result c = search needs
-
 returns-4 : tie.Need-returns-4
 returns-4 c = sym (by-dot _ _ (held (c .before .before .before .before .starts-with .ensures) (c .before .before .before .if1 .left)) (omega arith))
 
@@ -36,10 +30,10 @@ pub in-family-spec : {M : Type 1} → statement M
 in-family-spec =
     tie.close
     (tie.spec
-    starts-with-requires
+    (λ c κs. search needs)
     returns
     returns-2
     sub-if3
     returns-3
-    shared-slice-read-result
+    (λ c. search needs)
     returns-4)

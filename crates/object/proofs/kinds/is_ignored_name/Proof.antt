@@ -4,33 +4,15 @@ use Rattle.object.specs.Kinds.{isIgnoredName}
 use Rattle.object.proofs.kinds.is_ignored_name.Statement.{statement}
 use Rattle.object.proofs.kinds.is_ignored_name.Tie as tie
 
-slice-aggregate-same : tie.Need-slice-aggregate-same
-slice-aggregate-same c = search needs
-
-same-requires : tie.Need-same-requires
-same-requires c κs = search needs
-
 returns : tie.Need-returns
 unfolding isIgnoredName
 returns c = rw (← c .before .same .ensures, c .if1 .taken)
-
-slice-aggregate-same-2 : tie.Need-slice-aggregate-same-2
-slice-aggregate-same-2 c = search needs
-
-same-requires-2 : tie.Need-same-requires-2
-same-requires-2 c κs = search needs
 
 returns-2 : tie.Need-returns-2
 unfolding isIgnoredName
 returns-2 c =
     let no1 = c .before .before .before in
     rw (← no1 .before .same .ensures, no1 .if1 .left, ← c .before .same2 .ensures, c .if2 .taken)
-
-slice-aggregate-starts-with : tie.Need-slice-aggregate-starts-with
-slice-aggregate-starts-with c = search needs
-
-starts-with-requires : tie.Need-starts-with-requires
-starts-with-requires c κs = search needs
 
 returns-3 : tie.Need-returns-3
 unfolding isIgnoredName
@@ -43,12 +25,12 @@ pub is-ignored-name-spec : {M : Type 1} → statement M
 is-ignored-name-spec =
     tie.close
     (tie.spec
-    slice-aggregate-same
-    same-requires
+    (λ c. search needs)
+    (λ c κs. search needs)
     returns
-    slice-aggregate-same-2
-    same-requires-2
+    (λ c. search needs)
+    (λ c κs. search needs)
     returns-2
-    slice-aggregate-starts-with
-    starts-with-requires
+    (λ c. search needs)
+    (λ c κs. search needs)
     returns-3)

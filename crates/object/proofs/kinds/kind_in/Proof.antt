@@ -14,15 +14,6 @@ returns : tie.Need-returns
 unfolding kindOf
 returns c = simp (eq-eqb _ _ (c .if1 .taken))
 
-name-end-requires : tie.Need-name-end-requires
-name-end-requires c κs = search needs
-
-enum-known-end : tie.Need-enum-known-end
-enum-known-end c = search needs
-
-enum-told : tie.Need-enum-told
-enum-told c = search needs
-
 returns-2 : tie.Need-returns-2
 unfolding kindOf nameIn
 returns-2 c = simp (ne-eqb _ _ (c .before .before .before .if1 .left), sym (c .before .before .name-end .ensures), c .enum-told .given .1)
@@ -45,9 +36,6 @@ part-kind-named-start c = omega (arith, ends c)
 part-kind-named-end : tie.Need-part-kind-named-end
 part-kind-named-end c = omega (arith, ends c)
 
-kind-named-requires : tie.Need-kind-named-requires
-kind-named-requires c κs = search needs
-
 returns-3 : tie.Need-returns-3
 unfolding kindOf nameIn part
 returns-3 c =
@@ -63,12 +51,12 @@ kind-in-spec =
     tie.close
     (tie.spec
     returns
-    name-end-requires
-    enum-known-end
-    enum-told
+    (λ c κs. search needs)
+    (λ c. search needs)
+    (λ c. search needs)
     returns-2
     sub-kind-named
     part-kind-named-start
     part-kind-named-end
-    kind-named-requires
+    (λ c κs. search needs)
     returns-3)

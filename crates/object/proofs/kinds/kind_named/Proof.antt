@@ -26,18 +26,9 @@ module _ (s : tie.Start) where
   abbrev by-depends : Kind
   by-depends = cond (equal (s .args .name .now) (ascii ".livepatch.depends")) (noteKind (s .args .h) Depends) by-build-id
 
-slice-aggregate-same : tie.Need-slice-aggregate-same
-slice-aggregate-same c = search needs
-
-same-requires : tie.Need-same-requires
-same-requires c κs = search needs
-
 is-records : (c : tie.Then1) → let s = c .before .before .before .before in kind s ≡ cond (isAllocated (s .args .h) && hasType 1 (s .args .h)) Records Unknown
 unfolding kindNamed
 is-records c = rw (← c .before .same .ensures, c .if1 .taken)
-
-is-allocated-requires : tie.Need-is-allocated-requires
-is-allocated-requires c κs = search needs
 
 returns : tie.Need-returns
 returns c = rw (is-records (c .before .before), refuted (c .before .is-allocated .ensures) (c .if2 .taken))
@@ -55,29 +46,11 @@ not-records : (c : tie.Else1) → let s = c .before .before .before .before in k
 unfolding kindNamed
 not-records c = rw (← c .before .same .ensures, c .if1 .left)
 
-slice-aggregate-same-2 : tie.Need-slice-aggregate-same-2
-slice-aggregate-same-2 c = search needs
-
-same-requires-2 : tie.Need-same-requires-2
-same-requires-2 c κs = search needs
-
-note-kind-requires : tie.Need-note-kind-requires
-note-kind-requires c κs = search needs
-
 returns-4 : tie.Need-returns-4
 returns-4 c = rw (not-records (c .before .before .before .before), ← c .before .before .same2 .ensures, c .before .if4 .taken) (c .note-kind .ensures)
 
 not-depends : (c : tie.Else4) → let s = c .before .before .before .before .before .before .before in kind s ≡ by-build-id s
 not-depends c = rw (not-records (c .before .before .before), ← c .before .same2 .ensures, c .if4 .left)
-
-slice-aggregate-same-3 : tie.Need-slice-aggregate-same-3
-slice-aggregate-same-3 c = search needs
-
-same-requires-3 : tie.Need-same-requires-3
-same-requires-3 c κs = search needs
-
-note-kind-requires-2 : tie.Need-note-kind-requires-2
-note-kind-requires-2 c κs = search needs
 
 returns-5 : tie.Need-returns-5
 returns-5 c = rw (not-depends (c .before .before .before .before), ← c .before .before .same3 .ensures, c .before .if5 .taken) (c .note-kind2 .ensures)
@@ -85,17 +58,8 @@ returns-5 c = rw (not-depends (c .before .before .before .before), ← c .before
 not-build-id : (c : tie.Else5) → let s = c .before .before .before .before .before .before .before .before .before .before in kind s ≡ by-flag s
 not-build-id c = rw (not-depends (c .before .before .before), ← c .before .same3 .ensures, c .if5 .left)
 
-is-allocated-requires-2 : tie.Need-is-allocated-requires-2
-is-allocated-requires-2 c κs = search needs
-
-allocated-kind-requires : tie.Need-allocated-kind-requires
-allocated-kind-requires c κs = search needs
-
 returns-6 : tie.Need-returns-6
 returns-6 c = rw (not-build-id (c .before .before .before), ← c .before .before .is-allocated2 .ensures, c .before .if6 .taken) (c .allocated-kind .ensures)
-
-plain-kind-requires : tie.Need-plain-kind-requires
-plain-kind-requires c κs = search needs
 
 returns-7 : tie.Need-returns-7
 returns-7 c = rw (not-build-id (c .before .before .before), ← c .before .before .is-allocated2 .ensures, c .before .if6 .left) (c .plain-kind .ensures)
@@ -104,22 +68,22 @@ pub kind-named-spec : {M : Type 1} → statement M
 kind-named-spec =
     tie.close
     (tie.spec
-    slice-aggregate-same
-    same-requires
-    is-allocated-requires
+    (λ c. search needs)
+    (λ c κs. search needs)
+    (λ c κs. search needs)
     returns
     returns-2
     returns-3
-    slice-aggregate-same-2
-    same-requires-2
-    note-kind-requires
+    (λ c. search needs)
+    (λ c κs. search needs)
+    (λ c κs. search needs)
     returns-4
-    slice-aggregate-same-3
-    same-requires-3
-    note-kind-requires-2
+    (λ c. search needs)
+    (λ c κs. search needs)
+    (λ c κs. search needs)
     returns-5
-    is-allocated-requires-2
-    allocated-kind-requires
+    (λ c κs. search needs)
+    (λ c κs. search needs)
     returns-6
-    plain-kind-requires
+    (λ c κs. search needs)
     returns-7)

@@ -23,9 +23,6 @@ returns-4 c =
       ne-eqb _ _ (c .if4 .taken),
     )
 
-is-ignored-name-requires : tie.Need-is-ignored-name-requires
-is-ignored-name-requires c κs = search needs
-
 returns-5 : tie.Need-returns-5
 returns-5 c =
     let type-1 = c .before .before in
@@ -53,4 +50,4 @@ returns-6 c =
 pub plain-kind-spec : {M : Type 1} → statement M
 plain-kind-spec =
     tie.close
-    (tie.spec returns returns-2 returns-3 returns-4 is-ignored-name-requires returns-5 returns-6)
+    (tie.spec returns returns-2 returns-3 returns-4 (λ c κs. search needs) returns-5 returns-6)

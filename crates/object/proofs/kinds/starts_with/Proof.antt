@@ -13,12 +13,9 @@ returns c = sym (too-short _ _ (c .if1 .taken))
 slice-aggregate-same : tie.Need-slice-aggregate-same
 slice-aggregate-same c = sym (length-take-le _ _ (c .before .if1 .left))
 
-same-requires : tie.Need-same-requires
-same-requires c κs = search needs
-
 returns-2 : tie.Need-returns-2
 unfolding startsWith
 returns-2 c = c .same .ensures
 
 pub starts-with-spec : {M : Type 1} → statement M
-starts-with-spec = tie.close (tie.spec returns slice-aggregate-same same-requires returns-2)
+starts-with-spec = tie.close (tie.spec returns slice-aggregate-same (λ c κs. search needs) returns-2)

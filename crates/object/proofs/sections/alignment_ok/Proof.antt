@@ -9,12 +9,9 @@ returns : tie.Need-returns
 unfolding alignmentOk
 returns c = simp (eq-eqb _ _ (c .if1 .taken))
 
-rem-result : tie.Need-rem-result
-rem-result c = search needs
-
 returns-2 : tie.Need-returns-2
 unfolding alignmentOk
 returns-2 c = simp (ne-eqb _ _ (c .if1 .left))
 
 pub alignment-ok-spec : {M : Type 1} → statement M
-alignment-ok-spec = tie.close (tie.spec returns rem-result returns-2)
+alignment-ok-spec = tie.close (tie.spec returns (λ c. search needs) returns-2)

@@ -10,9 +10,6 @@ use Rattle.object.proofs.SectionLaws.{count-read, names-read}
 use Rattle.object.proofs.sections.check_name_table.Statement.{statement}
 use Rattle.object.proofs.sections.check_name_table.Tie as tie
 
-read-file-header-requires : tie.Need-read-file-header-requires
-read-file-header-requires c κs = search needs
-
 returns : tie.Need-returns
 unfolding nameTableRules
 returns c =
@@ -35,9 +32,6 @@ returns-2 c =
       ne-eqb _ _ (c .if2 .taken),
       and-false,
     )
-
-lies-within-requires : tie.Need-lies-within-requires
-lies-within-requires c κs = search needs
 
 returns-3 : tie.Need-returns-3
 unfolding nameTableRules
@@ -70,10 +64,10 @@ pub check-name-table-spec : {M : Type 1} → statement M
 check-name-table-spec =
     tie.close
     (tie.spec
-    read-file-header-requires
+    (λ c κs. search needs)
     returns
     header-at-requires
     returns-2
-    lies-within-requires
+    (λ c κs. search needs)
     returns-3
     returns-4)

@@ -38,9 +38,6 @@ module _ (s : tie.Start) where
   abbrev from-name : Verdict
   from-name = must (not (isKind (s .args .s .kind) Unnamed)) Invalid (Section (s .args .i)) then from-type
 
-code-requires : tie.Need-code-requires
-code-requires c κs = search needs
-
 returns : tie.Need-returns
 unfolding sectionRules
 returns c = simp (eq-eqb _ _ (c .if1 .taken))
@@ -49,12 +46,6 @@ returns c = simp (eq-eqb _ _ (c .if1 .taken))
 used : (c : tie.Else1) → let s = c .before .before .before .before in all-rules s ≡ from-name s
 unfolding sectionRules
 used c = rw (ne-eqb _ _ (c .if1 .left))
-
-code-requires-2 : tie.Need-code-requires-2
-code-requires-2 c κs = search needs
-
-refuse-at-requires : tie.Need-refuse-at-requires
-refuse-at-requires c κs = search needs
 
 returns-2 : tie.Need-returns-2
 returns-2 c =
@@ -66,12 +57,6 @@ name-passed c =
     let earlier = c .before .before in
     rw (used earlier, differs (earlier .before .before .code .ensures) (λ e. c .if2 .left (e ∙ sym (c .before .code2 .ensures))))
 
-known-type-requires : tie.Need-known-type-requires
-known-type-requires c κs = search needs
-
-refuse-at-requires-2 : tie.Need-refuse-at-requires-2
-refuse-at-requires-2 c κs = search needs
-
 returns-3 : tie.Need-returns-3
 returns-3 c =
     rw (name-passed (c .before .before .before), refuted (c .before .before .known-type .ensures) (c .before .if3 .taken), c .refuse-at2 .ensures)
@@ -79,24 +64,12 @@ returns-3 c =
 type-passed : (c : tie.Else3) → let s = c .before .before .before .before .before .before .before .before in all-rules s ≡ from-flags s
 type-passed c = rw (name-passed (c .before .before), held (c .before .known-type .ensures) (c .if3 .left))
 
-known-flags-requires : tie.Need-known-flags-requires
-known-flags-requires c κs = search needs
-
-refuse-at-requires-3 : tie.Need-refuse-at-requires-3
-refuse-at-requires-3 c κs = search needs
-
 returns-4 : tie.Need-returns-4
 returns-4 c =
     rw (type-passed (c .before .before .before), refuted (c .before .before .known-flags .ensures) (c .before .if4 .taken), c .refuse-at3 .ensures)
 
 flags-passed : (c : tie.Else4) → let s = c .before .before .before .before .before .before .before .before .before .before in all-rules s ≡ from-kind s
 flags-passed c = rw (type-passed (c .before .before), held (c .before .known-flags .ensures) (c .if4 .left))
-
-code-requires-3 : tie.Need-code-requires-3
-code-requires-3 c κs = search needs
-
-refuse-at-requires-4 : tie.Need-refuse-at-requires-4
-refuse-at-requires-4 c κs = search needs
 
 returns-5 : tie.Need-returns-5
 returns-5 c =
@@ -110,24 +83,12 @@ kind-passed c =
     let code-is = earlier .before .before .before .before .before .before .before .before .code .ensures in
     rw (flags-passed earlier, differs code-is (λ e. c .if5 .left (e ∙ sym (c .before .code3 .ensures))))
 
-alignment-ok-requires : tie.Need-alignment-ok-requires
-alignment-ok-requires c κs = search needs
-
-refuse-at-requires-5 : tie.Need-refuse-at-requires-5
-refuse-at-requires-5 c κs = search needs
-
 returns-6 : tie.Need-returns-6
 returns-6 c =
     rw (kind-passed (c .before .before .before), refuted (c .before .before .alignment-ok .ensures) (c .before .if6 .taken), c .refuse-at5 .ensures)
 
 alignment-passed : (c : tie.Else6) → let s = c .before .before .before .before .before .before .before .before .before .before .before .before .before .before in all-rules s ≡ from-contents s
 alignment-passed c = rw (kind-passed (c .before .before), held (c .before .alignment-ok .ensures) (c .if6 .left))
-
-contents-ok-requires : tie.Need-contents-ok-requires
-contents-ok-requires c κs = search needs
-
-refuse-at-requires-6 : tie.Need-refuse-at-requires-6
-refuse-at-requires-6 c κs = search needs
 
 returns-7 : tie.Need-returns-7
 returns-7 c =
@@ -140,24 +101,24 @@ pub check-section-spec : {M : Type 1} → statement M
 check-section-spec =
     tie.close
     (tie.spec
-    code-requires
+    (λ c κs. search needs)
     returns
-    code-requires-2
-    refuse-at-requires
+    (λ c κs. search needs)
+    (λ c κs. search needs)
     returns-2
-    known-type-requires
-    refuse-at-requires-2
+    (λ c κs. search needs)
+    (λ c κs. search needs)
     returns-3
-    known-flags-requires
-    refuse-at-requires-3
+    (λ c κs. search needs)
+    (λ c κs. search needs)
     returns-4
-    code-requires-3
-    refuse-at-requires-4
+    (λ c κs. search needs)
+    (λ c κs. search needs)
     returns-5
-    alignment-ok-requires
-    refuse-at-requires-5
+    (λ c κs. search needs)
+    (λ c κs. search needs)
     returns-6
-    contents-ok-requires
-    refuse-at-requires-6
+    (λ c κs. search needs)
+    (λ c κs. search needs)
     returns-7
     returns-8)

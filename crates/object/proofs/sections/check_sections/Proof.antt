@@ -26,33 +26,12 @@ each-section :
 unfolding sectionsRules noEntry
 each-section c = simp (eq-eqb _ _ (c .if1 .left))
 
-array-copy-out-first : tie.Need-array-copy-out-first Inv-loop μ-loop
-array-copy-out-first c = search needs
-
-refuse-at-requires : tie.Need-refuse-at-requires Inv-loop μ-loop
-refuse-at-requires c κs = search needs
-
 returns : tie.Need-returns Inv-loop μ-loop
 unfolding sectionsRules noEntry
 returns c = simp (ne-eqb _ _ (c .before .if1 .taken), c .refuse-at .ensures)
 
 loop-holds : tie.Need-loop-holds Inv-loop μ-loop
 loop-holds c = (omega arith, begin _ _ _)
-
-mul-one : tie.Need-mul-one Inv-loop μ-loop
-mul-one c = omega arith
-
-array-copy-out-one : tie.Need-array-copy-out-one Inv-loop μ-loop
-array-copy-out-one c = omega arith
-
-cast-check-section : tie.Need-cast-check-section Inv-loop μ-loop
-cast-check-section c = omega arith
-
-check-section-requires : tie.Need-check-section-requires Inv-loop μ-loop
-check-section-requires c κs = search needs
-
-enum-told : tie.Need-enum-told Inv-loop μ-loop
-enum-told c = search needs
 
 returns-2 : tie.Need-returns-2 Inv-loop μ-loop
 unfolding noEntry
@@ -63,15 +42,6 @@ returns-2 c =
     ∙ cl .loop .inv .1
     ∙ turn _ _ _ _ (c .before .before .before .before .loop-test .taken)
     ∙ rw (← c .before .before .check-section .ensures, c .enum-told .given .1))
-
-enum-told-2 : tie.Need-enum-told-2 Inv-loop μ-loop
-enum-told-2 c = search needs
-
-add-i : tie.Need-add-i Inv-loop μ-loop
-add-i c = omega arith
-
-loop-less : tie.Need-loop-less Inv-loop μ-loop
-loop-less c = omega arith
 
 loop-again : tie.Need-loop-again Inv-loop μ-loop
 unfolding noEntry
@@ -91,18 +61,18 @@ check-sections-spec =
     (tie.spec
     Inv-loop
     μ-loop
-    array-copy-out-first
-    refuse-at-requires
+    (λ c. search needs)
+    (λ c κs. search needs)
     returns
     loop-holds
-    mul-one
-    array-copy-out-one
-    cast-check-section
-    check-section-requires
-    enum-told
+    (λ c. omega arith)
+    (λ c. omega arith)
+    (λ c. omega arith)
+    (λ c κs. search needs)
+    (λ c. search needs)
     returns-2
-    enum-told-2
-    add-i
-    loop-less
+    (λ c. search needs)
+    (λ c. omega arith)
+    (λ c. omega arith)
     loop-again
     returns-3)

@@ -7,11 +7,8 @@ use Rattle.object.proofs.sections.contents_ok.Tie as tie
 returns : tie.Need-returns
 returns c = simp (eq-eqb _ _ (c .if1 .taken))
 
-lies-within-requires : tie.Need-lies-within-requires
-lies-within-requires c κs = search needs
-
 returns-2 : tie.Need-returns-2
 returns-2 c = simp (ne-eqb _ _ (c .before .if1 .left), c .lies-within .ensures)
 
 pub contents-ok-spec : {M : Type 1} → statement M
-contents-ok-spec = tie.close (tie.spec returns lies-within-requires returns-2)
+contents-ok-spec = tie.close (tie.spec returns (λ c κs. search needs) returns-2)

@@ -3,14 +3,8 @@ use borrow.Author.Needs.{needs}
 use Rattle.object.proofs.sections.entry_at.Statement.{statement}
 use Rattle.object.proofs.sections.entry_at.Tie as tie
 
-header-at-requires : tie.Need-header-at-requires
-header-at-requires c κs = search needs
-
-kind-in-requires : tie.Need-kind-in-requires
-kind-in-requires c κs = search needs
-
 returns : tie.Need-returns
 returns c = simp (c .kind-in .ensures, c .before .before .before .before .pre .2, c .before .header-at .ensures)
 
 pub entry-at-spec : {M : Type 1} → statement M
-entry-at-spec = tie.close (tie.spec header-at-requires kind-in-requires returns)
+entry-at-spec = tie.close (tie.spec (λ c κs. search needs) (λ c κs. search needs) returns)

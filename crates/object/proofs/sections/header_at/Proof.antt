@@ -10,12 +10,6 @@ use Rattle.object.proofs.SectionLaws.{header-inside}
 use Rattle.object.proofs.sections.header_at.Statement.{statement}
 use Rattle.object.proofs.sections.header_at.Tie as tie
 
-read-file-header-requires : tie.Need-read-file-header-requires
-read-file-header-requires c κs = search needs
-
-mul-at : tie.Need-mul-at
-mul-at c = search needs
-
 add-at : tie.Need-add-at
 add-at c =
     let c0 = c .before .before .before in
@@ -36,4 +30,4 @@ returns c =
 pub header-at-spec : {M : Type 1} → statement M
 header-at-spec =
     tie.close
-    (tie.spec read-file-header-requires mul-at add-at read-section-header-requires returns)
+    (tie.spec (λ c κs. search needs) (λ c. search needs) add-at read-section-header-requires returns)

@@ -6,16 +6,10 @@ use Rattle.object.proofs.SectionLaws.{names-read, names-inside}
 use Rattle.object.proofs.sections.name_table.Statement.{statement}
 use Rattle.object.proofs.sections.name_table.Tie as tie
 
-read-file-header-requires : tie.Need-read-file-header-requires
-read-file-header-requires c κs = search needs
-
 header-at-requires : tie.Need-header-at-requires
 header-at-requires c κs =
     let c0 = c .before .before in
     (c0 .pre .0, omega (arith, names-read _ (c .read-file-header .ensures .0), names-inside _ (c0 .pre .1)))
-
-contents-of-requires : tie.Need-contents-of-requires
-contents-of-requires c κs = search needs
 
 returns : tie.Need-returns
 unfolding nameTable
@@ -23,4 +17,4 @@ returns c = simp (c .contents-of .ensures, c .before .header-at .ensures, names-
 
 pub name-table-spec : {M : Type 1} → statement M
 name-table-spec =
-    tie.close (tie.spec read-file-header-requires header-at-requires contents-of-requires returns)
+    tie.close (tie.spec (λ c κs. search needs) header-at-requires (λ c κs. search needs) returns)

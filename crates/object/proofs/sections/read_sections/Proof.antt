@@ -18,15 +18,6 @@ Inv-loop file count names table₀ i₀ table i = (i ≤ count) × (table ≡ fi
 abbrev μ-loop : tie.MeasureT-loop
 μ-loop file count names table₀ i₀ table i = count - i
 
-read-file-header-requires : tie.Need-read-file-header-requires Inv-loop μ-loop
-read-file-header-requires c κs = search needs
-
-name-table-requires : tie.Need-name-table-requires Inv-loop μ-loop
-name-table-requires c κs = search needs
-
-none-requires : tie.Need-none-requires Inv-loop μ-loop
-none-requires c κs = search needs
-
 loop-holds : tie.Need-loop-holds Inv-loop μ-loop
 loop-holds c = (omega arith, ap (replicate sectionsMax) (c .none .ensures) ∙ fill-begin _ _ _)
 
@@ -50,12 +41,6 @@ mul-table c = omega (arith, in-table (c .before))
 array-set-from-table : tie.Need-array-set-from-table Inv-loop μ-loop
 array-set-from-table c = in-table (c .before)
 
-add-i : tie.Need-add-i Inv-loop μ-loop
-add-i c = omega arith
-
-loop-less : tie.Need-loop-less Inv-loop μ-loop
-loop-less c = omega arith
-
 loop-again : tie.Need-loop-again Inv-loop μ-loop
 loop-again c = (
   omega arith,
@@ -75,14 +60,14 @@ read-sections-spec =
     (tie.spec
     Inv-loop
     μ-loop
-    read-file-header-requires
-    name-table-requires
-    none-requires
+    (λ c κs. search needs)
+    (λ c κs. search needs)
+    (λ c κs. search needs)
     loop-holds
     entry-at-requires
     mul-table
     array-set-from-table
-    add-i
-    loop-less
+    (λ c. omega arith)
+    (λ c. omega arith)
     loop-again
     returns)

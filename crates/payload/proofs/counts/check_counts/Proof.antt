@@ -37,9 +37,6 @@ module _ (s : tie.Start) where
   abbrev three-names : Verdict
   three-names = one-of Records then one-of Depends then one-of BuildId then right-size
 
-count-of-requires : tie.Need-count-of-requires
-count-of-requires c κs = search needs
-
 returns : tie.Need-returns
 unfolding countRules
 returns c = rw (differs (c .before .count-of .ensures) (c .if1 .taken))
@@ -47,24 +44,6 @@ returns c = rw (differs (c .before .count-of .ensures) (c .if1 .taken))
 symbols-counted : (c : tie.Else1) → let s = c .before .before in all-rules s ≡ (right-header s then three-names s)
 unfolding countRules
 symbols-counted c = rw (equals (c .before .count-of .ensures) (c .if1 .left))
-
-index-of-requires : tie.Need-index-of-requires
-index-of-requires c κs = search needs
-
-mul-entry : tie.Need-mul-entry
-mul-entry c = omega arith
-
-array-copy-out-entry : tie.Need-array-copy-out-entry
-array-copy-out-entry c = omega arith
-
-symbol-table-ok-requires : tie.Need-symbol-table-ok-requires
-symbol-table-ok-requires c κs = search needs
-
-cast-refuse-at : tie.Need-cast-refuse-at
-cast-refuse-at c = omega arith
-
-refuse-at-requires : tie.Need-refuse-at-requires
-refuse-at-requires c κs = search needs
 
 returns-2 : tie.Need-returns-2
 unfolding noEntry
@@ -81,17 +60,11 @@ unfolding noEntry
 header-passed c =
     rw (symbols-counted (c .before .before .before .before), ← c .before .before .before .index-of .ensures .0, held (c .before .symbol-table-ok .ensures) (c .if2 .left))
 
-count-of-requires-2 : tie.Need-count-of-requires-2
-count-of-requires-2 c κs = search needs
-
 returns-3 : tie.Need-returns-3
 returns-3 c = rw (header-passed (c .before .before), differs (c .before .count-of2 .ensures) (c .if3 .taken))
 
 records-counted : (c : tie.Else3) → let s = c .before .before .before .before .before .before .before .before in all-rules s ≡ (one-of s Depends then one-of s BuildId then right-size s)
 records-counted c = rw (header-passed (c .before .before), equals (c .before .count-of2 .ensures) (c .if3 .left))
-
-count-of-requires-3 : tie.Need-count-of-requires-3
-count-of-requires-3 c κs = search needs
 
 returns-4 : tie.Need-returns-4
 returns-4 c = rw (records-counted (c .before .before), differs (c .before .count-of3 .ensures) (c .if4 .taken))
@@ -99,32 +72,11 @@ returns-4 c = rw (records-counted (c .before .before), differs (c .before .count
 depends-counted : (c : tie.Else4) → let s = c .before .before .before .before .before .before .before .before .before .before in all-rules s ≡ (one-of s BuildId then right-size s)
 depends-counted c = rw (records-counted (c .before .before), equals (c .before .count-of3 .ensures) (c .if4 .left))
 
-count-of-requires-4 : tie.Need-count-of-requires-4
-count-of-requires-4 c κs = search needs
-
 returns-5 : tie.Need-returns-5
 returns-5 c = rw (depends-counted (c .before .before), differs (c .before .count-of4 .ensures) (c .if5 .taken))
 
 build-id-counted : (c : tie.Else5) → let s = c .before .before .before .before .before .before .before .before .before .before .before .before in all-rules s ≡ right-size s
 build-id-counted c = rw (depends-counted (c .before .before), equals (c .before .count-of4 .ensures) (c .if5 .left))
-
-index-of-requires-2 : tie.Need-index-of-requires-2
-index-of-requires-2 c κs = search needs
-
-mul-listed : tie.Need-mul-listed
-mul-listed c = omega arith
-
-array-copy-out-listed : tie.Need-array-copy-out-listed
-array-copy-out-listed c = omega arith
-
-records-size-ok-requires : tie.Need-records-size-ok-requires
-records-size-ok-requires c κs = search needs
-
-cast-refuse-at-2 : tie.Need-cast-refuse-at-2
-cast-refuse-at-2 c = omega arith
-
-refuse-at-requires-2 : tie.Need-refuse-at-requires-2
-refuse-at-requires-2 c κs = search needs
 
 returns-6 : tie.Need-returns-6
 unfolding noEntry
@@ -145,26 +97,26 @@ pub check-counts-spec : {M : Type 1} → statement M
 check-counts-spec =
     tie.close
     (tie.spec
-    count-of-requires
+    (λ c κs. search needs)
     returns
-    index-of-requires
-    mul-entry
-    array-copy-out-entry
-    symbol-table-ok-requires
-    cast-refuse-at
-    refuse-at-requires
+    (λ c κs. search needs)
+    (λ c. omega arith)
+    (λ c. omega arith)
+    (λ c κs. search needs)
+    (λ c. omega arith)
+    (λ c κs. search needs)
     returns-2
-    count-of-requires-2
+    (λ c κs. search needs)
     returns-3
-    count-of-requires-3
+    (λ c κs. search needs)
     returns-4
-    count-of-requires-4
+    (λ c κs. search needs)
     returns-5
-    index-of-requires-2
-    mul-listed
-    array-copy-out-listed
-    records-size-ok-requires
-    cast-refuse-at-2
-    refuse-at-requires-2
+    (λ c κs. search needs)
+    (λ c. omega arith)
+    (λ c. omega arith)
+    (λ c κs. search needs)
+    (λ c. omega arith)
+    (λ c κs. search needs)
     returns-6
     returns-7)

@@ -16,29 +16,8 @@ Inv-loop count table wanted seen₀ i₀ seen i =
 abbrev μ-loop : tie.MeasureT-loop
 μ-loop count table wanted seen₀ i₀ seen i = count - i
 
-code-requires : tie.Need-code-requires Inv-loop μ-loop
-code-requires c κs = search needs
-
 loop-holds : tie.Need-loop-holds Inv-loop μ-loop
 loop-holds c = (omega arith, omega arith, count-begin (c .before .args .t1) (c .code .result) _)
-
-mul-one : tie.Need-mul-one Inv-loop μ-loop
-mul-one c = omega arith
-
-array-copy-out-one : tie.Need-array-copy-out-one Inv-loop μ-loop
-array-copy-out-one c = omega arith
-
-code-requires-2 : tie.Need-code-requires-2 Inv-loop μ-loop
-code-requires-2 c κs = search needs
-
-add-seen : tie.Need-add-seen Inv-loop μ-loop
-add-seen c = omega arith
-
-add-i : tie.Need-add-i Inv-loop μ-loop
-add-i c = omega arith
-
-loop-less : tie.Need-loop-less Inv-loop μ-loop
-loop-less c = omega arith
 
 loop-again : tie.Need-loop-again Inv-loop μ-loop
 unfolding noEntry
@@ -63,13 +42,13 @@ count-of-spec =
     (tie.spec
     Inv-loop
     μ-loop
-    code-requires
+    (λ c κs. search needs)
     loop-holds
-    mul-one
-    array-copy-out-one
-    code-requires-2
-    add-seen
-    add-i
-    loop-less
+    (λ c. omega arith)
+    (λ c. omega arith)
+    (λ c κs. search needs)
+    (λ c. omega arith)
+    (λ c. omega arith)
+    (λ c. omega arith)
     loop-again
     returns)

@@ -15,20 +15,8 @@ Inv-loop count table wanted i₀ i = (i ≤ count) × (index-from table wanted 0
 abbrev μ-loop : tie.MeasureT-loop
 μ-loop count table wanted i₀ i = count - i
 
-code-requires : tie.Need-code-requires Inv-loop μ-loop
-code-requires c κs = search needs
-
 loop-holds : tie.Need-loop-holds Inv-loop μ-loop
 loop-holds c = (omega arith, begin _ _ _)
-
-mul-one : tie.Need-mul-one Inv-loop μ-loop
-mul-one c = omega arith
-
-array-copy-out-one : tie.Need-array-copy-out-one Inv-loop μ-loop
-array-copy-out-one c = omega arith
-
-code-requires-2 : tie.Need-code-requires-2 Inv-loop μ-loop
-code-requires-2 c κs = search needs
 
 returns : tie.Need-returns Inv-loop μ-loop
 unfolding noEntry
@@ -39,12 +27,6 @@ returns c =
           ∙ indexed _ _ _ (c .before .before .before .before .before .code .ensures),
       omega arith,
     )
-
-add-i : tie.Need-add-i Inv-loop μ-loop
-add-i c = omega arith
-
-loop-less : tie.Need-loop-less Inv-loop μ-loop
-loop-less c = omega arith
 
 loop-again : tie.Need-loop-again Inv-loop μ-loop
 unfolding noEntry
@@ -62,13 +44,13 @@ index-of-spec =
     (tie.spec
     Inv-loop
     μ-loop
-    code-requires
+    (λ c κs. search needs)
     loop-holds
-    mul-one
-    array-copy-out-one
-    code-requires-2
+    (λ c. omega arith)
+    (λ c. omega arith)
+    (λ c κs. search needs)
     returns
-    add-i
-    loop-less
+    (λ c. omega arith)
+    (λ c. omega arith)
     loop-again
     returns-2)

@@ -9,9 +9,6 @@ returns : tie.Need-returns
 unfolding recordsSizeOk
 returns c = simp (lt-leb _ _ (c .if1 .taken))
 
-mul-if2 : tie.Need-mul-if2
-mul-if2 c = search needs
-
 returns-2 : tie.Need-returns-2
 unfolding recordsSizeOk
 returns-2 c = simp (le-leb _ _ (c .before .if1 .left), lt-leb _ _ (c .if2 .taken))
@@ -21,4 +18,4 @@ unfolding recordsSizeOk
 returns-3 c = simp (le-leb _ _ (c .before .if1 .left), le-leb _ _ (c .if2 .left))
 
 pub records-size-ok-spec : {M : Type 1} → statement M
-records-size-ok-spec = tie.close (tie.spec returns mul-if2 returns-2 returns-3)
+records-size-ok-spec = tie.close (tie.spec returns (λ c. search needs) returns-2 returns-3)

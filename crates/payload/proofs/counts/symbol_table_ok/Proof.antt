@@ -18,12 +18,6 @@ returns-3 : tie.Need-returns-3
 unfolding symbolTableOk
 returns-3 c = simp (eq-eqb _ _ (c .before .before .before .if1 .left), eq-eqb _ _ (c .before .if2 .left), le-ltb _ _ (c .if3 .taken))
 
-mul-strings : tie.Need-mul-strings
-mul-strings c = search needs
-
-array-copy-out-strings : tie.Need-array-copy-out-strings
-array-copy-out-strings c = search needs
-
 returns-4 : tie.Need-returns-4
 unfolding symbolTableOk noEntry
 returns-4 c =
@@ -35,4 +29,4 @@ returns-4 c =
 
 pub symbol-table-ok-spec : {M : Type 1} → statement M
 symbol-table-ok-spec =
-    tie.close (tie.spec returns returns-2 returns-3 mul-strings array-copy-out-strings returns-4)
+    tie.close (tie.spec returns returns-2 returns-3 (λ c. search needs) (λ c. search needs) returns-4)

@@ -23,27 +23,6 @@ loop-holds : tie.Need-loop-holds Inv-loop μ-loop
 unfolding noteRules
 loop-holds c = (omega arith, begin _ _ _)
 
-mul-one : tie.Need-mul-one Inv-loop μ-loop
-mul-one c = omega arith
-
-array-copy-out-one : tie.Need-array-copy-out-one Inv-loop μ-loop
-array-copy-out-one c = omega arith
-
-is-note-requires : tie.Need-is-note-requires Inv-loop μ-loop
-is-note-requires c κs = search needs
-
-contents-of-requires : tie.Need-contents-of-requires Inv-loop μ-loop
-contents-of-requires c κs = search needs
-
-note-ok-requires : tie.Need-note-ok-requires Inv-loop μ-loop
-note-ok-requires c κs = search needs
-
-cast-refuse-at : tie.Need-cast-refuse-at Inv-loop μ-loop
-cast-refuse-at c = omega arith
-
-refuse-at-requires : tie.Need-refuse-at-requires Inv-loop μ-loop
-refuse-at-requires c κs = search needs
-
 returns : tie.Need-returns Inv-loop μ-loop
 unfolding noEntry
 returns c =
@@ -55,12 +34,6 @@ returns c =
       refuted (c .before .before .note-ok .ensures ∙ ap noteOk (c .before .before .before .contents-of .ensures)) (c .before .if2 .taken),
       c .refuse-at .ensures,
     ))
-
-add-i : tie.Need-add-i Inv-loop μ-loop
-add-i c = omega arith
-
-loop-less : tie.Need-loop-less Inv-loop μ-loop
-loop-less c = omega arith
 
 loop-again : tie.Need-loop-again Inv-loop μ-loop
 unfolding noEntry
@@ -84,15 +57,15 @@ check-notes-spec =
     Inv-loop
     μ-loop
     loop-holds
-    mul-one
-    array-copy-out-one
-    is-note-requires
-    contents-of-requires
-    note-ok-requires
-    cast-refuse-at
-    refuse-at-requires
+    (λ c. omega arith)
+    (λ c. omega arith)
+    (λ c κs. search needs)
+    (λ c κs. search needs)
+    (λ c κs. search needs)
+    (λ c. omega arith)
+    (λ c κs. search needs)
     returns
-    add-i
-    loop-less
+    (λ c. omega arith)
+    (λ c. omega arith)
     loop-again
     returns-2)

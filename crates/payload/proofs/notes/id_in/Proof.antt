@@ -13,27 +13,12 @@ use Rattle.payload.proofs.notes.id_in.Tie as tie
 read-note-requires : tie.Need-read-note-requires
 read-note-requires c κs = omega (arith, note-ok-length _ (c .before .pre))
 
-add-end : tie.Need-add-end
-add-end c = search needs
-
-slice-aggregate-copy : tie.Need-slice-aggregate-copy
-slice-aggregate-copy c = search needs
-
-sub-copy : tie.Need-sub-copy
-sub-copy c = search needs
-
-part-copy-start : tie.Need-part-copy-start
-part-copy-start c = search needs
-
 part-copy-end : tie.Need-part-copy-end
 part-copy-end c = omega (arith, note-ok-length _ (c .before .before .before .pre), ap (λ (h : Note). h .«n_descsz») (c .before .read-note .ensures .0))
 
 copy-requires : tie.Need-copy-requires
 copy-requires c κs =
     rw length-take (omega (arith, note-ok-length _ (c .before .before .before .before .pre), ap (λ (h : Note). h .«n_descsz») (c .before .before .read-note .ensures .0)))
-
-cast-t14 : tie.Need-cast-t14
-cast-t14 c = search needs
 
 returns : tie.Need-returns
 unfolding part
@@ -44,11 +29,11 @@ id-in-spec =
     tie.close
     (tie.spec
     read-note-requires
-    add-end
-    slice-aggregate-copy
-    sub-copy
-    part-copy-start
+    (λ c. search needs)
+    (λ c. search needs)
+    (λ c. search needs)
+    (λ c. search needs)
     part-copy-end
     copy-requires
-    cast-t14
+    (λ c. search needs)
     returns)

@@ -11,23 +11,8 @@ returns : tie.Need-returns
 unfolding noteOk
 returns c = simp (lt-leb _ _ (c .if1 .taken))
 
-read-note-requires : tie.Need-read-note-requires
-read-note-requires c κs = search needs
-
-note-head-ok-requires : tie.Need-note-head-ok-requires
-note-head-ok-requires c κs = search needs
-
 returns-2 : tie.Need-returns-2
 returns-2 c = rw (ok-by _ (c .before .before .read-note .ensures .0), le-leb _ _ (c .before .before .before .if1 .left), refuted (c .before .note-head-ok .ensures) (c .if2 .taken))
-
-add-if3 : tie.Need-add-if3
-add-if3 c = search needs
-
-mul-if3 : tie.Need-mul-if3
-mul-if3 c = search needs
-
-add-if3-2 : tie.Need-add-if3-2
-add-if3-2 c = search needs
 
 returns-3 : tie.Need-returns-3
 returns-3 c =
@@ -37,21 +22,6 @@ returns-3 c =
       held (c .before .before .note-head-ok .ensures) (c .before .if2 .left),
       ne-eqb _ _ (c .if3 .taken),
     )
-
-add-padding : tie.Need-add-padding
-add-padding c = search needs
-
-sub-all-zero : tie.Need-sub-all-zero
-sub-all-zero c = search needs
-
-part-all-zero-start : tie.Need-part-all-zero-start
-part-all-zero-start c = search needs
-
-part-all-zero-end : tie.Need-part-all-zero-end
-part-all-zero-end c = search needs
-
-all-zero-requires : tie.Need-all-zero-requires
-all-zero-requires c κs = search needs
 
 returns-4 : tie.Need-returns-4
 returns-4 c =
@@ -69,16 +39,16 @@ note-ok-spec =
     tie.close
     (tie.spec
     returns
-    read-note-requires
-    note-head-ok-requires
+    (λ c κs. search needs)
+    (λ c κs. search needs)
     returns-2
-    add-if3
-    mul-if3
-    add-if3-2
+    (λ c. search needs)
+    (λ c. search needs)
+    (λ c. search needs)
     returns-3
-    add-padding
-    sub-all-zero
-    part-all-zero-start
-    part-all-zero-end
-    all-zero-requires
+    (λ c. search needs)
+    (λ c. search needs)
+    (λ c. search needs)
+    (λ c. search needs)
+    (λ c κs. search needs)
     returns-4)

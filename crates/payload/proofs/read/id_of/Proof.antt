@@ -6,18 +6,6 @@ use borrow.Author.Needs.{needs}
 use Rattle.payload.proofs.read.id_of.Statement.{statement}
 use Rattle.payload.proofs.read.id_of.Tie as tie
 
-index-of-requires : tie.Need-index-of-requires
-index-of-requires c κs = search needs
-
-mul-one : tie.Need-mul-one
-mul-one c = search needs
-
-array-copy-out-one : tie.Need-array-copy-out-one
-array-copy-out-one c = search needs
-
-contents-of-requires : tie.Need-contents-of-requires
-contents-of-requires c κs = search needs
-
 id-in-requires : tie.Need-id-in-requires
 unfolding noEntry
 id-in-requires c κs =
@@ -34,9 +22,9 @@ pub id-of-spec : {M : Type 1} → statement M
 id-of-spec =
     tie.close
     (tie.spec
-    index-of-requires
-    mul-one
-    array-copy-out-one
-    contents-of-requires
+    (λ c κs. search needs)
+    (λ c. search needs)
+    (λ c. search needs)
+    (λ c κs. search needs)
     id-in-requires
     returns)

@@ -11,37 +11,16 @@ use borrow.Author.Needs.{needs}
 use Rattle.payload.proofs.read.read.Statement.{statement}
 use Rattle.payload.proofs.read.read.Tie as tie
 
-check-header-requires : tie.Need-check-header-requires
-check-header-requires c κs = search needs
-
-enum-known-head : tie.Need-enum-known-head
-enum-known-head c = search needs
-
-refuse-requires : tie.Need-refuse-requires
-refuse-requires c κs = search needs
-
 returns : tie.Need-returns
 unfolding readingOf readRules
 returns c = rw (← c .before .before .before .before .check-header .ensures, c .before .before .head .given .1) (c .refuse .ensures)
 
-enum-told : tie.Need-enum-told
-enum-told c = search needs
-
 check-name-table-requires : tie.Need-check-name-table-requires
 check-name-table-requires c κs = headed (c .before .before .before .before .args .file .now) (sym (c .before .before .check-header .ensures) ∙ c .enum-told .given .1)
-
-enum-known-names : tie.Need-enum-known-names
-enum-known-names c = search needs
-
-refuse-requires-2 : tie.Need-refuse-requires-2
-refuse-requires-2 c κs = search needs
 
 returns-2 : tie.Need-returns-2
 unfolding readingOf readRules
 returns-2 c = rw (← c .before .before .before .before .before .before .before .check-header .ensures, c .before .before .before .before .before .enum-told .given .1, ← c .before .before .before .before .check-name-table .ensures, c .before .before .names .given .1) (c .refuse2 .ensures)
-
-enum-told-2 : tie.Need-enum-told-2
-enum-told-2 c = search needs
 
 read-file-header-requires : tie.Need-read-file-header-requires
 read-file-header-requires c κs = headed (c .before .before .before .before .before .before .before .args .file .now) (sym (c .before .before .before .before .before .check-header .ensures) ∙ c .before .before .before .enum-told .given .1) .whole
@@ -70,18 +49,9 @@ module _ (c : tie.After-read-sections) where
 check-table-requires : tie.Need-check-table-requires
 check-table-requires c κs = few c
 
-enum-known-rest : tie.Need-enum-known-rest
-enum-known-rest c = search needs
-
-refuse-requires-3 : tie.Need-refuse-requires-3
-refuse-requires-3 c κs = search needs
-
 returns-3 : tie.Need-returns-3
 returns-3 c =
     c .refuse3 .ensures ∙ sym (by-table (c .before .before .before .before .before) ∙ rw (← c .before .before .before .before .check-table .ensures, c .before .before .rest .given .1))
-
-enum-told-3 : tie.Need-enum-told-3
-enum-told-3 c = search needs
 
 accept-requires : tie.Need-accept-requires
 accept-requires c κs = (
@@ -97,22 +67,22 @@ pub read-spec : {M : Type 1} → statement M
 read-spec =
     tie.close
     (tie.spec
-    check-header-requires
-    enum-known-head
-    refuse-requires
+    (λ c κs. search needs)
+    (λ c. search needs)
+    (λ c κs. search needs)
     returns
-    enum-told
+    (λ c. search needs)
     check-name-table-requires
-    enum-known-names
-    refuse-requires-2
+    (λ c. search needs)
+    (λ c κs. search needs)
     returns-2
-    enum-told-2
+    (λ c. search needs)
     read-file-header-requires
     read-sections-requires
     check-table-requires
-    enum-known-rest
-    refuse-requires-3
+    (λ c. search needs)
+    (λ c κs. search needs)
     returns-3
-    enum-told-3
+    (λ c. search needs)
     accept-requires
     returns-4)

@@ -5,12 +5,9 @@ use borrow.Author.Needs.{needs}
 use Rattle.payload.proofs.read.refuse.Statement.{statement}
 use Rattle.payload.proofs.read.refuse.Tie as tie
 
-none-requires : tie.Need-none-requires
-none-requires c κs = search needs
-
 returns : tie.Need-returns
 unfolding no-id
 returns c = rw (c .none .ensures) refl
 
 pub refuse-spec : {M : Type 1} → statement M
-refuse-spec = tie.close (tie.spec none-requires returns)
+refuse-spec = tie.close (tie.spec (λ c κs. search needs) returns)

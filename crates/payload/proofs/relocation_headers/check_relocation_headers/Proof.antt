@@ -28,24 +28,6 @@ loop-holds : tie.Need-loop-holds Inv-loop μ-loop
 unfolding relocationHeaderRules
 loop-holds c = (omega arith, begin _ _ _)
 
-mul-one : tie.Need-mul-one Inv-loop μ-loop
-mul-one c = omega arith
-
-array-copy-out-one : tie.Need-array-copy-out-one Inv-loop μ-loop
-array-copy-out-one c = omega arith
-
-enum-told : tie.Need-enum-told Inv-loop μ-loop
-enum-told c = search needs
-
-relocation-header-ok-requires : tie.Need-relocation-header-ok-requires Inv-loop μ-loop
-relocation-header-ok-requires c κs = search needs
-
-cast-refuse-at : tie.Need-cast-refuse-at Inv-loop μ-loop
-cast-refuse-at c = omega arith
-
-refuse-at-requires : tie.Need-refuse-at-requires Inv-loop μ-loop
-refuse-at-requires c κs = search needs
-
 returns : tie.Need-returns Inv-loop μ-loop
 unfolding noEntry
 returns c =
@@ -59,12 +41,6 @@ returns c =
       refuted (c .before .before .relocation-header-ok .ensures) (c .before .if1 .taken),
       c .refuse-at .ensures,
     ))
-
-add-i : tie.Need-add-i Inv-loop μ-loop
-add-i c = omega arith
-
-loop-less : tie.Need-loop-less Inv-loop μ-loop
-loop-less c = omega arith
 
 -- the numbers of the kinds but Relocations
 others : List ℕ
@@ -94,14 +70,14 @@ check-relocation-headers-spec =
     Inv-loop
     μ-loop
     loop-holds
-    mul-one
-    array-copy-out-one
-    enum-told
-    relocation-header-ok-requires
-    cast-refuse-at
-    refuse-at-requires
+    (λ c. omega arith)
+    (λ c. omega arith)
+    (λ c. search needs)
+    (λ c κs. search needs)
+    (λ c. omega arith)
+    (λ c κs. search needs)
     returns
-    add-i
-    loop-less
+    (λ c. omega arith)
+    (λ c. omega arith)
     loop-again
     returns-2)

@@ -9,15 +9,6 @@ use Rattle.object.proofs.Arms.{other-kind}
 use Rattle.payload.proofs.relocation_headers.is_target.Statement.{statement}
 use Rattle.payload.proofs.relocation_headers.is_target.Tie as tie
 
-enum-told : tie.Need-enum-told
-enum-told c = search needs
-
-enum-told-2 : tie.Need-enum-told-2
-enum-told-2 c = search needs
-
-enum-told-3 : tie.Need-enum-told-3
-enum-told-3 c = search needs
-
 returns : tie.Need-returns
 unfolding isTarget
 returns c = rw (c .before .enum-told .given .1) (simp or-false)
@@ -42,4 +33,4 @@ returns-4 c =
 
 pub is-target-spec : {M : Type 1} → statement M
 is-target-spec =
-    tie.close (tie.spec enum-told enum-told-2 enum-told-3 returns returns-2 returns-3 returns-4)
+    tie.close (tie.spec (λ c. search needs) (λ c. search needs) (λ c. search needs) returns returns-2 returns-3 returns-4)

@@ -23,15 +23,6 @@ unfolding relocationHeaderOk
 returns-4 c =
     simp (eq-eqb _ _ (c .before .before .before .before .before .if1 .left), eq-eqb _ _ (c .before .before .before .if2 .left), eq-eqb _ _ (c .before .if3 .left), le-ltb _ _ (c .if4 .taken))
 
-mul-entry : tie.Need-mul-entry
-mul-entry c = search needs
-
-array-copy-out-entry : tie.Need-array-copy-out-entry
-array-copy-out-entry c = search needs
-
-is-target-requires : tie.Need-is-target-requires
-is-target-requires c κs = search needs
-
 returns-5 : tie.Need-returns-5
 unfolding relocationHeaderOk noEntry
 returns-5 c =
@@ -51,7 +42,7 @@ relocation-header-ok-spec =
     returns-2
     returns-3
     returns-4
-    mul-entry
-    array-copy-out-entry
-    is-target-requires
+    (λ c. search needs)
+    (λ c. search needs)
+    (λ c κs. search needs)
     returns-5)

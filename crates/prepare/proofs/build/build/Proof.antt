@@ -31,21 +31,12 @@ file-of s = s .args .file .now
 place-requires : tie.Need-place-requires
 place-requires c κs = few _ _ _ _ _ (c .before .before .pre .0)
 
-enum-known-placed-verdict : tie.Need-enum-known-placed-verdict
-enum-known-placed-verdict c = search needs
-
-nothing-built-requires : tie.Need-nothing-built-requires
-nothing-built-requires c κs = search needs
-
 returns : tie.Need-returns
 returns c =
     let placement = c .before .before .before .before in
     let s = placement .before .before .before in
     c .nothing-built .ensures
     ∙ sym (not-placed _ _ _ _ _ (s .pre .0) (aim s) (placement .place .result) (placement .place .ensures) _ (c .before .before .placed-verdict .given .1))
-
-enum-told : tie.Need-enum-told
-enum-told c = search needs
 
 -- where placement has passed
 module _ (c : tie.After-enum-told) where
@@ -63,23 +54,8 @@ module _ (c : tie.After-enum-told) where
       subst⁻¹ (λ (x : Placement). Linkable (length (x .image)) (file-of begun) (begun .args .t6) (begun .args .count) (begun .args .symbols) (x .offsets) (x .limits))
       (placing .1) (linkable _ _ _ _ _ (begun .pre .0) (placing .0))
 
-slice-aggregate-relocate : tie.Need-slice-aggregate-relocate
-slice-aggregate-relocate c = search needs
-
-slice-aggregate-relocate-2 : tie.Need-slice-aggregate-relocate-2
-slice-aggregate-relocate-2 c = search needs
-
-slice-aggregate-relocate-3 : tie.Need-slice-aggregate-relocate-3
-slice-aggregate-relocate-3 c = search needs
-
 relocate-requires : tie.Need-relocate-requires
 relocate-requires c κs = ready-to-link (c .before .before .before .before .before .before)
-
-enum-known-relocated : tie.Need-enum-known-relocated
-enum-known-relocated c = search needs
-
-nothing-built-requires-2 : tie.Need-nothing-built-requires-2
-nothing-built-requires-2 c κs = search needs
 
 -- what relocation answered
 linking : (c : tie.After-relocate) →
@@ -95,9 +71,6 @@ returns-2 c =
     let e = relocating .before .before .before .before .before .before .before in
     c .nothing-built2 .ensures
     ∙ sym (not-linked _ _ _ _ _ (begun e .pre .0) (aim (begun e)) _ (placing e .0) (ap (λ (x : Relocated). x .verdict) (sym (linking relocating)) ∙ c .before .before .relocated .given .1))
-
-enum-told-2 : tie.Need-enum-told-2
-enum-told-2 c = search needs
 
 -- where relocation has passed
 module _ (c : tie.After-enum-told2) where
@@ -168,12 +141,6 @@ read-functions-requires c κs =
       start relocated-all .pre .1,
     )
 
-enum-known-found-verdict : tie.Need-enum-known-found-verdict
-enum-known-found-verdict c = search needs
-
-nothing-built-requires-3 : tie.Need-nothing-built-requires-3
-nothing-built-requires-3 c κs = search needs
-
 -- what the records answered
 found-is :
     (c : tie.After-read-functions) →
@@ -197,9 +164,6 @@ returns-3 c =
     c .nothing-built3 .ensures
     ∙ sym (not-patched _ _ _ _ _ (s .pre .0) (aim s) (placing (earlier relocated-all) .0) (passed relocated-all) (records .read-functions .result) (found-is records) _ (c .before .before .found-verdict .given .1))
 
-enum-told-3 : tie.Need-enum-told-3
-enum-told-3 c = search needs
-
 returns-4 : tie.Need-returns-4
 returns-4 c =
     let records = c .before .before .before in
@@ -218,18 +182,18 @@ build-spec =
     tie.close
     (tie.spec
     place-requires
-    enum-known-placed-verdict
-    nothing-built-requires
+    (λ c. search needs)
+    (λ c κs. search needs)
     returns
-    enum-told
-    slice-aggregate-relocate
-    slice-aggregate-relocate-2
-    slice-aggregate-relocate-3
+    (λ c. search needs)
+    (λ c. search needs)
+    (λ c. search needs)
+    (λ c. search needs)
     relocate-requires
-    enum-known-relocated
-    nothing-built-requires-2
+    (λ c. search needs)
+    (λ c κs. search needs)
     returns-2
-    enum-told-2
+    (λ c. search needs)
     mul-entry
     array-copy-out-entry
     mul-start
@@ -237,8 +201,8 @@ build-spec =
     array-share-prefix-image
     slice-aggregate-read-functions
     read-functions-requires
-    enum-known-found-verdict
-    nothing-built-requires-3
+    (λ c. search needs)
+    (λ c κs. search needs)
     returns-3
-    enum-told-3
+    (λ c. search needs)
     returns-4)

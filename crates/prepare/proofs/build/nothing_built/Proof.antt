@@ -10,9 +10,6 @@ use borrow.Author.Needs.{needs}
 use Rattle.prepare.proofs.build.nothing_built.Statement.{statement}
 use Rattle.prepare.proofs.build.nothing_built.Tie as tie
 
-empty-requires : tie.Need-empty-requires
-empty-requires c κs = search needs
-
 returns : tie.Need-returns
 unfolding empty named
 returns c =
@@ -21,4 +18,4 @@ returns c =
     (c .before .empty .ensures)
 
 pub nothing-built-spec : {M : Type 1} → statement M
-nothing-built-spec = tie.close (tie.spec empty-requires returns)
+nothing-built-spec = tie.close (tie.spec (λ c κs. search needs) returns)

@@ -37,16 +37,10 @@ refused :
     (outcome x (slot-of s) ≡ prepareOf (aim s) (file-of s) (slot-of s)) × Faithful (aim s) (file-of s) (slot-of s) (outcome x (slot-of s))
 refused s e f = owed (aim s) (file-of s) (slot-of s) _ (ap (λ (x : Prepared). outcome x (slot-of s)) e ∙ sym f)
 
-refuse-requires : tie.Need-refuse-requires
-refuse-requires c κs = search needs
-
 returns : tie.Need-returns
 returns c =
     let s = c .before .before .before .before .before in
     refused s (c .refuse .ensures) (wrong-sizes (aim s) (file-of s) (slot-of s) (rw (ne-eqb _ _ (c .before .if1 .taken))))
-
-refuse-requires-2 : tie.Need-refuse-requires-2
-refuse-requires-2 c κs = search needs
 
 returns-2 : tie.Need-returns-2
 returns-2 c =
@@ -58,15 +52,6 @@ returns-2 c =
 sizes : (c : tie.Else2) → let s = c .before .before .before .before .before in sizesOk (aim s) (slot-of s) ≡ true
 sizes c = rw (eq-eqb _ _ (c .before .if1 .left), le-leb _ _ (c .if2 .left))
 
-read-requires : tie.Need-read-requires
-read-requires c κs = search needs
-
-enum-known-read-verdict : tie.Need-enum-known-read-verdict
-enum-known-read-verdict c = search needs
-
-refuse-requires-3 : tie.Need-refuse-requires-3
-refuse-requires-3 c κs = search needs
-
 returns-3 : tie.Need-returns-3
 returns-3 c =
     let right = c .before .before .before .before .before in
@@ -75,17 +60,11 @@ returns-3 c =
     refused s (c .refuse3 .ensures)
     (not-read (aim s) (file-of s) (slot-of s) (sizes right) _ (read-told (file-of s) (read .result) (read .ensures) _ (c .before .before .read-verdict .given .1)))
 
-enum-told : tie.Need-enum-told
-enum-told c = search needs
-
 build-requires : tie.Need-build-requires
 build-requires c κs =
     let s = c .before .before .before .before .before .before .before .before .before in
     let read = c .before .before .before .read in
     (ready-by (file-of s) (read .result) (read .ensures) (c .before .enum-told .given .1), omega arith)
-
-enum-known-built-verdict : tie.Need-enum-known-built-verdict
-enum-known-built-verdict c = search needs
 
 -- the reading has passed
 read-passes : (c : tie.After-enum-told) → let s = c .before .before .before .before .before .before .before .before in readRules (file-of s) ≡ Pass
@@ -93,9 +72,6 @@ read-passes c =
     let s = c .before .before .before .before .before .before .before .before in
     let read = c .before .before .read in
     read-told (file-of s) (read .result) (read .ensures) _ (c .enum-told .given .1)
-
-refuse-requires-4 : tie.Need-refuse-requires-4
-refuse-requires-4 c κs = search needs
 
 returns-4 : tie.Need-returns-4
 returns-4 c =
@@ -105,9 +81,6 @@ returns-4 c =
     let build = c .before .before .before .before .build in
     refused s (c .refuse4 .ensures)
     (not-built (aim s) (file-of s) (slot-of s) (sizes right) _ (read-passes read) (build-told (aim s) (file-of s) (build .result) (build .ensures) _ (c .before .before .built-verdict .given .1)))
-
-enum-told-2 : tie.Need-enum-told-2
-enum-told-2 c = search needs
 
 -- where all stages have passed
 module _ (c : tie.After-enum-told2) where
@@ -126,16 +99,10 @@ module _ (c : tie.After-enum-told2) where
   slot-length : length (c .before .before .build .result .image) ≡ placedMax
   slot-length = ap (λ (x : Built). length (x .image)) built-whole ∙ length-built (aim start) (file-of start) (read-passes reading-read) build-passes
 
-slice-aggregate-copy : tie.Need-slice-aggregate-copy
-slice-aggregate-copy c = search needs
-
 copy-requires : tie.Need-copy-requires
 copy-requires c κs =
     let passed = c .before .before .before in
     omega (arith, slot-length passed, reading-read passed .before .before .before .before .if1 .left)
-
-same-length : tie.Need-same-length
-same-length c = search needs
 
 returns-5 : tie.Need-returns-5
 returns-5 c =
@@ -156,21 +123,21 @@ pub prepare-spec : {M : Type 1} → statement M
 prepare-spec =
     tie.close
     (tie.spec
-    refuse-requires
+    (λ c κs. search needs)
     returns
-    refuse-requires-2
+    (λ c κs. search needs)
     returns-2
-    read-requires
-    enum-known-read-verdict
-    refuse-requires-3
+    (λ c κs. search needs)
+    (λ c. search needs)
+    (λ c κs. search needs)
     returns-3
-    enum-told
+    (λ c. search needs)
     build-requires
-    enum-known-built-verdict
-    refuse-requires-4
+    (λ c. search needs)
+    (λ c κs. search needs)
     returns-4
-    enum-told-2
-    slice-aggregate-copy
+    (λ c. search needs)
+    (λ c. search needs)
     copy-requires
-    same-length
+    (λ c. search needs)
     returns-5)

@@ -27,28 +27,13 @@ has-field l target size r Absolute something known = refl
 has-field l target size r Relative something known = refl
 has-field l target size r Unknown something known = absurd (miss (0 ∷ 1 ∷ 2 ∷ []) 3 tt known)
 
-relocation-type-requires : tie.Need-relocation-type-requires
-relocation-type-requires c κs = search needs
-
-enum-told : tie.Need-enum-told
-enum-told c = search needs
-
 returns : tie.Need-returns
 unfolding fieldOf
 returns c = λ l g. rw (← c .before .before .relocation-type .ensures, c .enum-told .given .1)
 
-enum-told-2 : tie.Need-enum-told-2
-enum-told-2 c = search needs
-
 returns-2 : tie.Need-returns-2
 unfolding fieldOf
 returns-2 c = λ l g. rw (← c .before .before .before .relocation-type .ensures, c .enum-told2 .given .1)
-
-width-requires : tie.Need-width-requires
-width-requires c κs = search needs
-
-lies-within-requires : tie.Need-lies-within-requires
-lies-within-requires c κs = search needs
 
 -- whether the field lies within its section, tested
 tested :
@@ -68,39 +53,15 @@ returns-3 c =
       refuted (tested (c .before)) (c .if1 .taken),
     )
 
-mul-start : tie.Need-mul-start
-mul-start c = search needs
-
-shared-slice-read-start : tie.Need-shared-slice-read-start
-shared-slice-read-start c = search needs
-
 resolved-value-requires : tie.Need-resolved-value-requires
 resolved-value-requires c κs =
     let given = c .before .before .before .before .before .before .before .before .pre .2 in
     (given .0, given .1 .symbols)
 
-enum-known-reason : tie.Need-enum-known-reason
-enum-known-reason c = search needs
-
-enum-known-s : tie.Need-enum-known-s
-enum-known-s c = search needs
-
-add-requires : tie.Need-add-requires
-add-requires c κs = search needs
-
-add-requires-2 : tie.Need-add-requires-2
-add-requires-2 c κs = search needs
-
 add-store : tie.Need-add-store
 add-store c =
     let fits = c .before .before .before .before .before .before .before .before in
     omega (arith, leb-true, held (tested (fits .before)) (fits .if1 .left))
-
-value-requires : tie.Need-value-requires
-value-requires c κs = search needs
-
-store-requires : tie.Need-store-requires
-store-requires c κs = search needs
 
 returns-4 : tie.Need-returns-4
 unfolding fieldOf
@@ -137,23 +98,23 @@ pub field-of-spec : {M : Type 1} → statement M
 field-of-spec =
     tie.close
     (tie.spec
-    relocation-type-requires
-    enum-told
+    (λ c κs. search needs)
+    (λ c. search needs)
     returns
-    enum-told-2
+    (λ c. search needs)
     returns-2
-    width-requires
-    lies-within-requires
+    (λ c κs. search needs)
+    (λ c κs. search needs)
     returns-3
-    mul-start
-    shared-slice-read-start
+    (λ c. search needs)
+    (λ c. search needs)
     resolved-value-requires
-    enum-known-reason
-    enum-known-s
-    add-requires
-    add-requires-2
+    (λ c. search needs)
+    (λ c. search needs)
+    (λ c κs. search needs)
+    (λ c κs. search needs)
     add-store
-    value-requires
-    store-requires
+    (λ c κs. search needs)
+    (λ c κs. search needs)
     returns-4
     returns-5)

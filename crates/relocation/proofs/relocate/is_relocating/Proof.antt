@@ -11,9 +11,6 @@ use Rattle.relocation.specs.Relocating.{isRelocating}
 use Rattle.relocation.proofs.relocate.is_relocating.Statement.{statement}
 use Rattle.relocation.proofs.relocate.is_relocating.Tie as tie
 
-enum-told : tie.Need-enum-told
-enum-told c = search needs
-
 -- the numbers of the kinds but Relocations, and of those but Ignored
 no-relocations : List ℕ
 no-relocations = 0 ∷ 1 ∷ 2 ∷ 3 ∷ 4 ∷ 5 ∷ 6 ∷ 7 ∷ 9 ∷ 10 ∷ []
@@ -35,9 +32,6 @@ mul-made-in c = omega (arith, in-table (c .before))
 array-copy-out-made-in : tie.Need-array-copy-out-made-in
 array-copy-out-made-in c = in-table (c .before)
 
-enum-told-2 : tie.Need-enum-told-2
-enum-told-2 c = search needs
-
 returns-2 : tie.Need-returns-2
 unfolding isRelocating noEntry
 returns-2 c = rw (c .before .before .before .before .enum-told .given .1, c .enum-told2 .given .1)
@@ -52,4 +46,4 @@ returns-3 c =
 pub is-relocating-spec : {M : Type 1} → statement M
 is-relocating-spec =
     tie.close
-    (tie.spec enum-told returns mul-made-in array-copy-out-made-in enum-told-2 returns-2 returns-3)
+    (tie.spec (λ c. search needs) returns mul-made-in array-copy-out-made-in (λ c. search needs) returns-2 returns-3)

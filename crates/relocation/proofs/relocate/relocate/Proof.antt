@@ -50,12 +50,6 @@ relocate-section-requires c κs =
     let linkable = rw (← test .before .loop .inv .1) at pre in
     ((_, _, _, linkable, test .loop-test .taken), (_, given (test .before .before)))
 
-enum-told : tie.Need-enum-told Inv-loop μ-loop
-enum-told c = search needs
-
-same-length : tie.Need-same-length Inv-loop μ-loop
-same-length c = omega arith
-
 returns : tie.Need-returns Inv-loop μ-loop
 returns c =
     let test = c .before .before .before .before .before .before .before .before .before in
@@ -63,15 +57,6 @@ returns c =
     (test .before .loop .inv .2
     ∙ sections-turn _ _ _ _ _ _ (test .loop-test .taken)
     ∙ rw (← c .before .before .before .before .relocate-section .ensures _ (given (test .before .before)), c .enum-told .given .1))
-
-enum-told-2 : tie.Need-enum-told-2 Inv-loop μ-loop
-enum-told-2 c = search needs
-
-add-i : tie.Need-add-i Inv-loop μ-loop
-add-i c = omega arith
-
-loop-less : tie.Need-loop-less Inv-loop μ-loop
-loop-less c = omega arith
 
 loop-again : tie.Need-loop-again Inv-loop μ-loop
 loop-again c =
@@ -82,9 +67,6 @@ loop-again c =
           ∙ sections-turn _ _ _ _ _ _ (test .loop-test .taken)
           ∙ rw (← c .before .before .before .before .relocate-section .ensures _ (given (test .before .before)), c .enum-told2 .given .1),
     )
-
-same-length-2 : tie.Need-same-length-2 Inv-loop μ-loop
-same-length-2 c = omega arith
 
 returns-2 : tie.Need-returns-2 Inv-loop μ-loop
 returns-2 c = sym (c .before .loop .inv .2 ∙ sections-end _ _ _ _ _ _ (c .loop-test .left))
@@ -98,12 +80,12 @@ relocate-spec =
     resolve-symbols-requires
     loop-holds
     relocate-section-requires
-    enum-told
-    same-length
+    (λ c. search needs)
+    (λ c. omega arith)
     returns
-    enum-told-2
-    add-i
-    loop-less
+    (λ c. search needs)
+    (λ c. omega arith)
+    (λ c. omega arith)
     loop-again
-    same-length-2
+    (λ c. omega arith)
     returns-2)

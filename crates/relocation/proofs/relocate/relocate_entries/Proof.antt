@@ -26,27 +26,12 @@ Inv-loop image₀ base offsets values faults entries section target size cursor�
 abbrev μ-loop : tie.MeasureT-loop
 μ-loop image₀ base offsets values faults entries section target size cursor₀ image cursor = entryCount entries - cursor .entry
 
-start-requires : tie.Need-start-requires Inv-loop μ-loop
-start-requires c κs = search needs
-
 loop-holds : tie.Need-loop-holds Inv-loop μ-loop
 loop-holds c =
     let a = c .before .before .before .before in
     let first-entry : c .start .result .entry ≡ 0 = ap (λ (k : Cursor). k .entry) (c .start .ensures) in
     let all : entryCount (a .args .entries .now) - 0 ≡ entryCount (a .args .entries .now) = omega arith in
     rw first-entry (omega arith, a .pre .0, λ l g. rw all)
-
-next-requires : tie.Need-next-requires Inv-loop μ-loop
-next-requires c κs = search needs
-
-enum-known-r : tie.Need-enum-known-r Inv-loop μ-loop
-enum-known-r c = search needs
-
-enum-told : tie.Need-enum-told Inv-loop μ-loop
-enum-told c = search needs
-
-same-length : tie.Need-same-length Inv-loop μ-loop
-same-length c = omega arith
 
 returns : tie.Need-returns Inv-loop μ-loop
 returns c =
@@ -69,17 +54,8 @@ found c =
     let a = loop .before .before .before .before .before .args in
     next-entry (a .entries .now) (loop .loop .cursor) _ _ (sym (c .before .before .before .next .ensures) ∙ c .before .r .given .1)
 
-field-of-requires : tie.Need-field-of-requires Inv-loop μ-loop
-field-of-requires c κs = search needs
-
-enum-known-f : tie.Need-enum-known-f Inv-loop μ-loop
-enum-known-f c = search needs
-
 cast-number : tie.Need-cast-number Inv-loop μ-loop
 cast-number c = omega (arith, found (c .before .before .before .before))
-
-same-length-2 : tie.Need-same-length-2 Inv-loop μ-loop
-same-length-2 c = omega arith
 
 returns-2 : tie.Need-returns-2 Inv-loop μ-loop
 returns-2 c =
@@ -118,17 +94,17 @@ relocate-entries-spec =
     (tie.spec
     Inv-loop
     μ-loop
-    start-requires
+    (λ c κs. search needs)
     loop-holds
-    next-requires
-    enum-known-r
-    enum-told
-    same-length
+    (λ c κs. search needs)
+    (λ c. search needs)
+    (λ c. search needs)
+    (λ c. omega arith)
     returns
-    field-of-requires
-    enum-known-f
+    (λ c κs. search needs)
+    (λ c. search needs)
     cast-number
-    same-length-2
+    (λ c. omega arith)
     returns-2
     store-field-requires
     loop-less

@@ -61,9 +61,6 @@ array-copy-out-made-in : tie.Need-array-copy-out-made-in
 unfolding noEntry
 array-copy-out-made-in c = target-below (c .before) .0
 
-contents-of-requires : tie.Need-contents-of-requires
-contents-of-requires c κs = search needs
-
 cast-relocate-entries : tie.Need-cast-relocate-entries
 cast-relocate-entries c =
     omega (arith, in-table (c .before .before .before .before .before .before .before .before .before .before .before))
@@ -79,9 +76,6 @@ relocate-entries-requires c κs =
       rw (c .before .contents-of .ensures) (le-trans (contents-short _ _) (pre .0 .3 .short)),
       pre .1,
     )
-
-same-length : tie.Need-same-length
-same-length c = search needs
 
 returns-2 : tie.Need-returns-2
 unfolding relocateSection noEntry
@@ -102,8 +96,8 @@ relocate-section-spec =
     returns
     mul-made-in
     array-copy-out-made-in
-    contents-of-requires
+    (λ c κs. search needs)
     cast-relocate-entries
     relocate-entries-requires
-    same-length
+    (λ c. search needs)
     returns-2)

@@ -6,12 +6,6 @@ use Rattle.object.specs.Sections.{noEntry}
 use Rattle.relocation.proofs.relocate.resolve_symbols.Statement.{statement}
 use Rattle.relocation.proofs.relocate.resolve_symbols.Tie as tie
 
-mul-symbol-entry : tie.Need-mul-symbol-entry
-mul-symbol-entry c = search needs
-
-array-copy-out-symbol-entry : tie.Need-array-copy-out-symbol-entry
-array-copy-out-symbol-entry c = search needs
-
 mul-string-entry : tie.Need-mul-string-entry
 unfolding noEntry
 mul-string-entry c = omega arith
@@ -19,15 +13,6 @@ mul-string-entry c = omega arith
 array-copy-out-string-entry : tie.Need-array-copy-out-string-entry
 unfolding noEntry
 array-copy-out-string-entry c = omega arith
-
-contents-of-requires : tie.Need-contents-of-requires
-contents-of-requires c κs = search needs
-
-contents-of-requires-2 : tie.Need-contents-of-requires-2
-contents-of-requires-2 c κs = search needs
-
-resolve-all-requires : tie.Need-resolve-all-requires
-resolve-all-requires c κs = search needs
 
 returns : tie.Need-returns
 unfolding noEntry
@@ -38,11 +23,11 @@ pub resolve-symbols-spec : {M : Type 1} → statement M
 resolve-symbols-spec =
     tie.close
     (tie.spec
-    mul-symbol-entry
-    array-copy-out-symbol-entry
+    (λ c. search needs)
+    (λ c. search needs)
     mul-string-entry
     array-copy-out-string-entry
-    contents-of-requires
-    contents-of-requires-2
-    resolve-all-requires
+    (λ c κs. search needs)
+    (λ c κs. search needs)
+    (λ c κs. search needs)
     returns)

@@ -5,14 +5,8 @@ use Rattle.relocation.proofs.RelocateLaws.{nothing-stored}
 use Rattle.relocation.proofs.relocate.store_field.Statement.{statement}
 use Rattle.relocation.proofs.relocate.store_field.Tie as tie
 
-enum-known-f : tie.Need-enum-known-f
-enum-known-f c = search needs
-
 write-requires : tie.Need-write-requires
 write-requires c κs = rw (c .before .before .f .given .1) at (c .before .before .before .before .before .pre)
-
-same-length : tie.Need-same-length
-same-length c = search needs
 
 returns : tie.Need-returns
 returns c = c .before .before .write .ensures ∙ rw (c .before .before .before .before .before .f .given .1)
@@ -21,4 +15,4 @@ returns-2 : tie.Need-returns-2
 returns-2 c = sym (nothing-stored (c .before .before .args .image .now) (c .before .before .args .f) (c .match .keys2))
 
 pub store-field-spec : {M : Type 1} → statement M
-store-field-spec = tie.close (tie.spec enum-known-f write-requires same-length returns returns-2)
+store-field-spec = tie.close (tie.spec (λ c. search needs) write-requires (λ c. search needs) returns returns-2)

@@ -5,12 +5,9 @@ use Rattle.words.specs.Address.{sum}
 use Rattle.words.proofs.address.add.Statement.{statement}
 use Rattle.words.proofs.address.add.Tie as tie
 
-wrapping-add-u64-requires : tie.Need-wrapping-add-u64-requires
-wrapping-add-u64-requires c κs = search needs
-
 returns : tie.Need-returns
 unfolding sum
 returns c = omega arith
 
 pub add-spec : {M : Type 1} → statement M
-add-spec = tie.close (tie.spec wrapping-add-u64-requires returns)
+add-spec = tie.close (tie.spec (λ c κs. search needs) returns)

@@ -11,22 +11,10 @@ use Rattle.words.proofs.address.fits_signed.Tie as tie
 half : (bits : ℕ) → 1 ≤ bits → bits ≤ 64 → (1 * 2 ^ (bits - 1)) % 2 ^ 64 ≡ 2 ^ (bits - 1)
 half bits some narrow = let within : 2 ^ (bits - 1) < 2 ^ 64 = pow-lt {j = 64} (omega arith) in omega arith
 
-sub-half : tie.Need-sub-half
-sub-half c = search needs
-
-cast-half : tie.Need-cast-half
-cast-half c = search needs
-
-shl-half : tie.Need-shl-half
-shl-half c = search needs
-
 returns : tie.Need-returns
 returns c =
     let (some, narrow) = c .before .pre in
     sym (low _ 64 some narrow _ (omega (arith, half _ some narrow)))
-
-sub-if2 : tie.Need-sub-if2
-sub-if2 c = search needs
 
 returns-2 : tie.Need-returns-2
 returns-2 c =
@@ -40,4 +28,4 @@ returns-3 c =
 
 pub fits-signed-spec : {M : Type 1} → statement M
 fits-signed-spec =
-    tie.close (tie.spec sub-half cast-half shl-half returns sub-if2 returns-2 returns-3)
+    tie.close (tie.spec (λ c. search needs) (λ c. search needs) (λ c. search needs) returns (λ c. search needs) returns-2 returns-3)

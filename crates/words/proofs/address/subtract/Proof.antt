@@ -5,12 +5,9 @@ use Rattle.words.specs.Address.{difference}
 use Rattle.words.proofs.address.subtract.Statement.{statement}
 use Rattle.words.proofs.address.subtract.Tie as tie
 
-wrapping-sub-u64-requires : tie.Need-wrapping-sub-u64-requires
-wrapping-sub-u64-requires c κs = search needs
-
 returns : tie.Need-returns
 unfolding difference
 returns c = omega arith
 
 pub subtract-spec : {M : Type 1} → statement M
-subtract-spec = tie.close (tie.spec wrapping-sub-u64-requires returns)
+subtract-spec = tie.close (tie.spec (λ c κs. search needs) returns)

@@ -27,21 +27,6 @@ loop-holds c =
     let none : a .n - a .n ≡ 0 = omega arith in
     rw none (omega arith, sym (div-one _), sym (rw (beBytes-none (a .x)) (splice-none _ _)), refl)
 
-sub-i : tie.Need-sub-i Inv-loop μ-loop
-sub-i c = omega arith
-
-cast-s : tie.Need-cast-s Inv-loop μ-loop
-cast-s c = omega arith
-
-add-s : tie.Need-add-s Inv-loop μ-loop
-add-s c = omega arith
-
-slice-write-s : tie.Need-slice-write-s Inv-loop μ-loop
-slice-write-s c = omega arith
-
-loop-less : tie.Need-loop-less Inv-loop μ-loop
-loop-less c = omega arith
-
 loop-again : tie.Need-loop-again Inv-loop μ-loop
 loop-again c =
     let a = c .before .before .args in
@@ -53,9 +38,6 @@ loop-again c =
       rw (left, beBytes-more, l .inv .2, l .inv .1, place) (splice-cons (a .s .now) (a .at + (l .i - 1)) _ _ (omega arith)),
       simp length-set (omega arith),
     )
-
-same-length : tie.Need-same-length Inv-loop μ-loop
-same-length c = omega arith
 
 returns : tie.Need-returns Inv-loop μ-loop
 returns c =
@@ -72,11 +54,11 @@ write-spec =
     Inv-loop
     μ-loop
     loop-holds
-    sub-i
-    cast-s
-    add-s
-    slice-write-s
-    loop-less
+    (λ c. omega arith)
+    (λ c. omega arith)
+    (λ c. omega arith)
+    (λ c. omega arith)
+    (λ c. omega arith)
     loop-again
-    same-length
+    (λ c. omega arith)
     returns)

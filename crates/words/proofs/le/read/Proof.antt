@@ -20,9 +20,6 @@ loop-holds c =
     let e : c .before .args .n - c .before .args .n ≡ 0 = omega arith in
     rw e (omega arith, sym (leAt-none _ _), omega arith)
 
-sub-i : tie.Need-sub-i Inv-loop μ-loop
-sub-i c = search needs
-
 -- in a turn at most seven bytes have been passed
 room : (c : tie.In-loop Inv-loop μ-loop) → c .before .loop .x < 256 ^ 7
 room c =
@@ -32,20 +29,8 @@ room c =
 mul-x : tie.Need-mul-x Inv-loop μ-loop
 mul-x c = omega (arith, room c)
 
-add-wide : tie.Need-add-wide Inv-loop μ-loop
-add-wide c = omega arith
-
-shared-slice-read-wide : tie.Need-shared-slice-read-wide Inv-loop μ-loop
-shared-slice-read-wide c = omega arith
-
-wide-requires : tie.Need-wide-requires Inv-loop μ-loop
-wide-requires c κs = search needs
-
 add-x : tie.Need-add-x Inv-loop μ-loop
 add-x c = omega (arith, room (c .before .before))
-
-loop-less : tie.Need-loop-less Inv-loop μ-loop
-loop-less c = omega arith
 
 loop-again : tie.Need-loop-again Inv-loop μ-loop
 loop-again c =
@@ -74,12 +59,12 @@ read-spec =
     Inv-loop
     μ-loop
     loop-holds
-    sub-i
+    (λ c. search needs)
     mul-x
-    add-wide
-    shared-slice-read-wide
-    wide-requires
+    (λ c. omega arith)
+    (λ c. omega arith)
+    (λ c κs. search needs)
     add-x
-    loop-less
+    (λ c. omega arith)
     loop-again
     returns)

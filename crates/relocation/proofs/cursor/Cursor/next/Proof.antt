@@ -9,19 +9,10 @@ returns : tie.Need-returns
 unfolding nextOf
 returns c = rw (le-ltb _ _ (c .if1 .taken))
 
-mul-read-relocation : tie.Need-mul-read-relocation
-mul-read-relocation c = search needs
-
-read-relocation-requires : tie.Need-read-relocation-requires
-read-relocation-requires c κs = search needs
-
-add-t6 : tie.Need-add-t6
-add-t6 c = search needs
-
 returns-2 : tie.Need-returns-2
 unfolding nextOf
 returns-2 c = rw (lt-ltb _ _ (c .before .if1 .left), c .read-relocation .ensures .0)
 
 pub next-spec : {M : Type 1} → statement M
 next-spec =
-    tie.close (tie.spec returns mul-read-relocation read-relocation-requires add-t6 returns-2)
+    tie.close (tie.spec returns (λ c. search needs) (λ c κs. search needs) (λ c. search needs) returns-2)
