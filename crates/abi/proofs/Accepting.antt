@@ -1,41 +1,50 @@
--- `urddolwy_prepare` returns 0 exactly when the payload and all that comes with it are right.
+-- All that `urddolwy_prepare` promises follows of the equation: 0 is returned exactly when the payload and all that comes with it are
+-- right, and bytes of ignored contents change nothing.
 use Prim.Native.Nat.{ℕ}
-use mathlib.Core.Path.{_≡_, refl, sym, ap, _∙_}
+use mathlib.Core.Path.{_≡_, refl, sym, ap, subst⁻¹, _∙_}
 use mathlib.Core.Bool.{Bool, true, false, and-false, false≢true}
+use mathlib.Core.Logic.{_↔_}
 use mathlib.Core.List.{List}
 use borrow.Author.Tests.{eq-eqb}
 use lib.Dec.{leb}
-use lib.ListN.{length}
 use Rattle.words.proofs.Tests.{both}
-use Rattle.records.specs.Limits.{textMax}
-use Rattle.records.specs.Verdict.{must}
-use Rattle.records.specs.declared.refusal.Reason.the-variants.{Invalid}
+use Rattle.records.specs.Verdict.{must, decide}
 use Rattle.records.specs.declared.refusal.Place.the-variants.{Nowhere}
 use Rattle.records.specs.declared.refusal.Verdict.{Verdict}
 use Rattle.records.specs.declared.refusal.Verdict.the-variants.{Pass, Refuse}
 use Rattle.records.proofs.Checks.{must-pass, then-pass}
 use Rattle.records.proofs.Numbers.{code-some}
-use Rattle.acceptance.specs.Stages.{Target, payloadRules}
+use Rattle.machine.specs.Host.{textMax}
+use Rattle.acceptance.specs.Consulted.{DifferInIgnored}
+use Rattle.acceptance.specs.Stages.{Setting, payloadRules}
 use Rattle.acceptance.proofs.Exactness.{exact}
 use Rattle.prepare.specs.Prepare.{sizesOk, prepareRules}
-use Rattle.abi.specs.Preparing.{rangesOk, buffersOk, callRules, Left, left, leftBy, callOf, Acceptable, ZeroExactly}
-use Rattle.abi.proofs.Calls.{buffers-told}
+use Rattle.prepare.proofs.FaithfulLaws.{prepares}
+use Rattle.abi.specs.Preparing.{
+  rangesOk,
+  Buffers,
+  buffersOk,
+  callRules,
+  Left,
+  refusedCall,
+  acceptedCall,
+  callOf,
+  Acceptable,
+  Answers,
+}
+use Rattle.abi.proofs.Calls.{callFrom, call-by-outcome, sizes-told}
 
-module _ (t : Target) (file image edits summary : List ℕ) where
+module _ (t : Setting) (file : List ℕ) (b : Buffers) where
   -- the sizes that `prepare` looks at are among those that the call does
-  sized : buffersOk (length image) (length edits) (length summary) ≡ true → rangesOk t ≡ true → sizesOk t image ≡ true
+  sized : buffersOk b ≡ true → rangesOk (t .host) ≡ true → sizesOk t (b .image) ≡ true
   unfolding rangesOk
-  sized buffers ranges = rw (eq-eqb _ _ (buffers-told _ _ _ buffers .0), by-test (leb (t .size) textMax) refl)
+  sized sizes ranges = rw (eq-eqb _ _ (sizes-told _ _ _ sizes .0), by-test (leb (t .host .«text_length») textMax) refl)
     where
-      by-test : (b : Bool) → leb (t .size) textMax ≡ b → leb (t .size) textMax ≡ true
+      by-test : (x : Bool) → leb (t .host .«text_length») textMax ≡ x → leb (t .host .«text_length») textMax ≡ true
       by-test true e = e
       by-test false e = absurd (false≢true (simp (e, and-false) at ranges))
 
-  zero-passes : (v : Verdict) → leftBy t file image edits summary v .answer ≡ 0 → v ≡ Pass
-  zero-passes Pass e = refl
-  zero-passes (Refuse r) e = absurd (code-some r e)
-
-  passed : callRules t file image edits summary ≡ Pass → Acceptable t file image edits summary
+  passed : callRules t file b ≡ Pass → Acceptable t file b
   unfolding callRules prepareRules
   passed pass =
       let first = then-pass _ _ pass in
@@ -45,23 +54,31 @@ module _ (t : Target) (file image edits summary : List ℕ) where
         buffers = right .0;
         ranges = right .1;
         listed = must-pass _ _ _ (second .0);
-        payload = exact t file .accepted (then-pass (must (sizesOk t image) Invalid Nowhere) (payloadRules t file) (second .1) .1);
+        payload = exact t file .accepted (then-pass (must (sizesOk t (b .image)) 22 Nowhere) (payloadRules t file) (second .1) .1);
       }
 
-  passing : Acceptable t file image edits summary → callRules t file image edits summary ≡ Pass
+  passing : Acceptable t file b → callRules t file b ≡ Pass
   unfolding callRules prepareRules
   passing a = rw (a .buffers, a .ranges, a .listed, sized (a .buffers) (a .ranges)) (exact t file .kept (a .payload))
 
-  pub zero-exactly : (answer : ℕ) (i e s : List ℕ) → left answer i e s ≡ callOf t file image edits summary → ZeroExactly t file image edits summary answer
-  unfolding callOf
-  zero-exactly answer i e s same =
-      let told : answer ≡ leftBy t file image edits summary (callRules t file image edits summary) .answer = ap (λ (x : Left). x .answer) same in (
-        λ zero. passed (zero-passes _ (sym told ∙ zero)),
-        λ a. told ∙ ap (λ (v : Verdict). leftBy t file image edits summary v .answer) (passing a),
-      )
+  -- no refusal's number is 0
+  zero-passes : (v : Verdict) → decide (refusedCall b) (acceptedCall t file) v .answer ≡ 0 → v ≡ Pass
+  zero-passes Pass e = refl
+  zero-passes (Refuse r) e = absurd (code-some r e)
 
-  -- what is owed of a call that answers as its definition
-  pub owed :
-      (answer : ℕ) (i e s : List ℕ) → left answer i e s ≡ callOf t file image edits summary →
-      (left answer i e s ≡ callOf t file image edits summary) × ZeroExactly t file image edits summary answer
-  owed answer i e s same = (same, zero-exactly answer i e s same)
+  zero-exactly : (callOf t file b .answer ≡ 0) ↔ Acceptable t file b
+  unfolding callOf
+  zero-exactly = (
+    λ zero. passed (zero-passes (callRules t file b) zero),
+    λ a. ap (λ (v : Verdict). decide (refusedCall b) (acceptedCall t file) v .answer) (passing a),
+  )
+
+  -- the outcome of the preparation is the same, and so is the call
+  same-call : (other : List ℕ) → DifferInIgnored file other → callOf t other b ≡ callOf t file b
+  same-call other differ =
+      call-by-outcome t b other
+      ∙ ap (callFrom t b) (prepares t file (b .image) refl .faithful .ignored other differ)
+      ∙ sym (call-by-outcome t b file)
+
+  pub answers : {l : Left} → l ≡ callOf t file b → Answers t file b l
+  answers e = subst⁻¹ (Answers t file b) e (record { equal = refl; exactly = zero-exactly; ignored = same-call })

@@ -1,125 +1,145 @@
 -- `urddolwy_prepare` by what its stages answered, and that the edits of an accepted payload fit their entries.
 use Prim.Native.Nat.{ℕ, _+_, _≤_, _<_, _^_}
-use mathlib.Core.Path.{_≡_, refl, sym, ap, _∙_}
+use mathlib.Core.Path.{_≡_, refl, _∙_}
 use mathlib.Core.Bool.{Bool, true, false, _&&_, and-false, false≢true}
-use mathlib.Core.List.{List, []}
+use mathlib.Core.List.{List}
 use native.Mathlib.Omega.{arith}
 use borrow.Author.Tests.{leb-true, eqb-true}
 use lib.Dec.{leb, eqb}
-use lib.ListN.{length, getD}
+use lib.ListN.{getD}
 use Rattle.words.proofs.Tests.{both}
 use Rattle.records.specs.Limits.{recordsMax, placedMax}
-use Rattle.records.specs.Payload.{no-edit}
-use Rattle.records.specs.Refusal.{codeOf}
-use Rattle.records.specs.Verdict.{must, _then_}
+use Rattle.records.specs.Payload.{noEdit}
+use Rattle.records.specs.Verdict.{refusal, must, _then_, decide}
 use Rattle.records.specs.declared.refusal.Reason.the-variants.{Invalid}
 use Rattle.records.specs.declared.refusal.Place.the-variants.{Nowhere}
 use Rattle.records.specs.declared.refusal.Verdict.{Verdict}
-use Rattle.records.specs.declared.refusal.Verdict.the-variants.{Pass}
-use Rattle.records.proofs.Checks.{then-pass}
+use Rattle.records.specs.declared.refusal.Verdict.the-variants.{Pass, Refuse}
+use Rattle.records.proofs.Checks.{then-pass, rules-told, answer-told}
+use Rattle.machine.specs.declared.host.Host.{Host}
 use Rattle.symbols.specs.SymbolList.{valid}
-use Rattle.payload.specs.Counts.{indexOf}
 use Rattle.payload.specs.Reading.{readRules}
-use Rattle.object.specs.Sections.{sections, sectionCount}
-use Rattle.object.specs.declared.kinds.Kind.the-variants.{Symbols}
-use Rattle.placement.specs.Placement.{placementRules}
-use Rattle.functions.specs.Functions.{functionRules}
-use Rattle.encode.specs.Encode.{Fitting, editsOf, editsSize, summaryOf, summarySize}
-use Rattle.acceptance.specs.Stages.{Target, target, relocatedOf, recordsIndex, recordCount, patchingOf, buildRules}
-use Rattle.prepare.specs.Prepare.{Outcome, outcome, sizesOk, prepareRules, acceptedOf, outcomeBy, prepareOf}
-use Rattle.prepare.specs.declared.prepare.Prepared.{Prepared}
-use Rattle.prepare.proofs.EditLaws.{InText, edit-in-text, bytes-short}
-use Rattle.prepare.proofs.OutcomeLaws.{verdict-prepared}
-use Rattle.prepare.proofs.PrepareLaws.{records-size}
-use Rattle.abi.specs.Preparing.{rangesOk, buffersOk, callRules, left, leftBy, callOf}
+use Rattle.payload.proofs.ReadingLaws.{read-passes}
+use Rattle.functions.proofs.FunctionLaws.{Made, edits-made, bytes-short, edit-addressed}
+use Rattle.encode.specs.Encode.{Fitting, editTable, editsSize, summaryOf, summarySize}
+use Rattle.acceptance.specs.Stages.{Setting, machineAt, recordsStart, recordCount, patchingOf, buildRules}
+use Rattle.prepare.specs.Prepare.{Outcome, sizesOk, prepareRules, acceptedPrepared, prepareOf}
+use Rattle.prepare.proofs.BuildLaws.{build-passes}
+use Rattle.prepare.proofs.OutcomeLaws.{outcomeBy, outcome-told}
+use Rattle.abi.specs.Preparing.{
+  rangesOk,
+  Buffers,
+  buffers,
+  bufferSizesOk,
+  buffersOk,
+  callRules,
+  Left,
+  left,
+  refusedCall,
+  acceptedCall,
+  callOf,
+}
 
 -- ---- the call, stage by stage
 
-module _ (t : Target) (file image edits summary : List ℕ) where
-  pub wrong-call : (buffersOk (length image) (length edits) (length summary) && rangesOk t) ≡ false → callOf t file image edits summary ≡ left 22 image edits summary
-  unfolding callOf callRules codeOf
-  wrong-call e = rw e
+-- sizes and ranges
+abbrev pub rightCall : Setting → Buffers → Bool
+rightCall t b = buffersOk b && rangesOk (t .host)
 
-  module _ (right : (buffersOk (length image) (length edits) (length summary) && rangesOk t) ≡ true) where
-    pub wrong-list : valid (t .list) ≡ false → callOf t file image edits summary ≡ left 22 image edits summary
-    unfolding callOf callRules codeOf
-    wrong-list e = rw (right, e)
+-- what an accepted payload leaves, of the outcome of its preparation
+abbrev pub writtenOf : Setting → Outcome → Left
+writtenOf t o =
+    let p = o .answer in
+    left 0
+    (buffers (o .image) (editTable (machineAt t) (t .host .text) (p .edits) (p .«edit_count»))
+    (summaryOf (p .placed) (p .«edit_count») (p .id) (p .dependency)))
 
-    pub by-payload : valid (t .list) ≡ true → callOf t file image edits summary ≡ leftBy t file image edits summary (prepareRules t file image)
+module _ (t : Setting) (b : Buffers) where
+  -- the call, where the preparation has this outcome
+  abbrev pub callFrom : Outcome → Left
+  callFrom o =
+      decide (refusedCall b) (writtenOf t o)
+      (must (rightCall t b) 22 Nowhere then must (valid (t .list)) 22 Nowhere then o .answer .verdict)
+
+  -- it looks at the file through the preparation alone
+  pub call-by-outcome : (file : List ℕ) → callOf t file b ≡ callFrom (prepareOf t file (b .image))
+  unfolding callOf callRules prepareOf
+  call-by-outcome file = by-verdict (rightCall t b) (valid (t .list)) (prepareRules t file (b .image))
+    where
+      by-verdict :
+          (right listed : Bool) (v : Verdict) →
+          decide (refusedCall b) (acceptedCall t file) (must right 22 Nowhere then must listed 22 Nowhere then v)
+          ≡ decide (refusedCall b) (writtenOf t (outcomeBy t file (b .image) v))
+          (must right 22 Nowhere then must listed 22 Nowhere then outcomeBy t file (b .image) v .answer .verdict)
+      by-verdict false listed v = refl
+      by-verdict true false v = refl
+      by-verdict true true Pass = refl
+      by-verdict true true (Refuse r) = refl
+
+  module _ (file : List ℕ) where
+    pub wrong-call : rightCall t b ≡ false → callOf t file b ≡ refusedCall b (refusal Invalid Nowhere)
     unfolding callOf callRules
-    by-payload e = rw (right, e)
+    wrong-call e = rw e
 
--- ---- what the preparation answered
+    pub wrong-list : rightCall t b ≡ true → valid (t .list) ≡ false → callOf t file b ≡ refusedCall b (refusal Invalid Nowhere)
+    unfolding callOf callRules
+    wrong-list right e = rw (right, e)
 
-module _ (t : Target) (file image : List ℕ) (r : Prepared) (after : List ℕ) (e : outcome r after ≡ prepareOf t file image) where
-  pub rules-told : (v : Verdict) → r .verdict ≡ v → prepareRules t file image ≡ v
-  rules-told v h = sym (verdict-prepared t file image) ∙ ap (λ (x : Outcome). x .answer .verdict) (sym e) ∙ h
+    -- sizes, ranges and list are right: the payload decides
+    module _ (right : rightCall t b ≡ true) (listed : valid (t .list) ≡ true) {o : Outcome} (prepared : o ≡ prepareOf t file (b .image)) where
+      pub by-payload : {v : Verdict} → o .answer .verdict ≡ v → callOf t file b ≡ decide (refusedCall b) (writtenOf t o) v
+      by-payload told = call-by-outcome file ∙ rw (← prepared, right, listed, told)
 
-  pub outcome-is : (v : Verdict) → r .verdict ≡ v → outcome r after ≡ outcomeBy t file image v
+-- ---- the preparation has this outcome
+
+module _ (t : Setting) (file image : List ℕ) {o : Outcome} (e : o ≡ prepareOf t file image) where
+  pub prepare-rules : {v : Verdict} → o .answer .verdict ≡ v → prepareRules t file image ≡ v
   unfolding prepareOf
-  outcome-is v h = e ∙ ap (outcomeBy t file image) (rules-told v h)
+  prepare-rules h = rules-told _ _ _ (outcome-told t file image) _ _ e h
 
--- ---- the edits
+  pub outcome-is : {v : Verdict} → o .answer .verdict ≡ v → o ≡ outcomeBy t file image v
+  unfolding prepareOf
+  outcome-is h = answer-told _ _ _ (outcome-told t file image) (prepareRules t file image) _ e h
 
-module _ (t : Target) (file image : List ℕ) (pass : prepareRules t file image ≡ Pass) where
-  stages : (readRules file ≡ Pass) × (buildRules t file ≡ Pass)
+-- ---- the edits of an accepted payload
+
+module _ (t : Setting) (file image : List ℕ) (pass : prepareRules t file image ≡ Pass) where
+  stages : (readRules (machineAt t) file ≡ Pass) × (buildRules t file ≡ Pass)
   unfolding prepareRules
-  stages =
-      let rest = then-pass (readRules file) (buildRules t file) (then-pass (must (sizesOk t image) Invalid Nowhere) (readRules file then buildRules t file) pass .1) in
-      (rest .0, rest .1)
-
-  functions-pass : functionRules (patchingOf t file) (recordCount file) ≡ Pass
-  unfolding buildRules
-  functions-pass =
-      then-pass (relocatedOf t file .verdict) (functionRules (patchingOf t file) (recordCount file))
-      (then-pass (placementRules (sections file) (sectionCount file)) _ (stages .1) .1) .1
+  stages = then-pass (readRules (machineAt t) file) (buildRules t file) (then-pass (must (sizesOk t image) 22 Nowhere) _ pass .1)
 
   pub few-records : recordCount file ≤ recordsMax
-  few-records =
-      let size = records-size file (sections file) (sectionCount file) (indexOf (sections file) (sectionCount file) Symbols) (recordsIndex file)
-      (record { passes = stages .0; table = refl; count = refl; symbol-table = refl; record-table = refl }) in
-      omega (arith, size .1)
+  few-records = omega (arith, read-passes file (machineAt t) (stages .0) .records-most)
 
-  pub fitting : t .text + t .size ≤ 2 ^ 64 → Fitting (t .text) (acceptedOf t file .edits) (acceptedOf t file .«edit_count»)
-  fitting below =
-      record {
-        addressed = λ r h. let i = one r h in omega (arith, i .inside, i .some);
-        short = λ r h. let s = bytes-short (t .size) _ (one r h) in omega (arith, s);
-      }
+  pub fitting :
+      t .host .text + t .host .«text_length» ≤ 2 ^ 64 →
+      Fitting (machineAt t) (t .host .text) (acceptedPrepared t file .edits) (recordCount file)
+  fitting ends = record { addressed = λ r h. edit-addressed (made r h) ends; short = λ r h. bytes-short (made r h) }
     where
-      one : (r : ℕ) → r < recordCount file → InText (t .size) (getD (acceptedOf t file .edits) r no-edit)
-      one r h = edit-in-text (patchingOf t file) (recordCount file) r functions-pass h
+      made : (r : ℕ) → r < recordCount file → Made (patchingOf t file) (getD (acceptedPrepared t file .edits) r noEdit)
+      made r h = edits-made (patchingOf t file) (recordsStart file) (recordCount file) (build-passes t file (stages .1) .of-functions) r h
+
+-- ---- what the tests of sizes and ranges tell
 
 -- the text ends at 2^64 or before
-pub text-ends : (t : Target) → rangesOk t ≡ true → t .text + t .size ≤ 2 ^ 64
+pub text-ends : (host : Host) → rangesOk host ≡ true → host .text + host .«text_length» ≤ 2 ^ 64
 unfolding rangesOk
-text-ends t h = by-test (leb (t .text + t .size) (2 ^ 64)) refl
+text-ends host h = by-test (leb (host .text + host .«text_length») (2 ^ 64)) refl
   where
-    by-test : (b : Bool) → leb (t .text + t .size) (2 ^ 64) ≡ b → t .text + t .size ≤ 2 ^ 64
+    by-test : (b : Bool) → leb (host .text + host .«text_length») (2 ^ 64) ≡ b → host .text + host .«text_length» ≤ 2 ^ 64
     by-test true e = leb-true _ _ e
     by-test false e = absurd (false≢true (simp (e, and-false) at h))
 
--- the ranges do not depend on the symbol list
-pub ranges-any : (text size base : ℕ) (list : List ℕ) → rangesOk (target text size base []) ≡ rangesOk (target text size base list)
-unfolding rangesOk
-ranges-any text size base list = refl
-
-pub buffers-told :
-    (image edits summary : ℕ) → buffersOk image edits summary ≡ true →
+pub sizes-told :
+    (image edits summary : ℕ) → bufferSizesOk image edits summary ≡ true →
     (image ≡ placedMax) × (edits ≡ editsSize) × (summary ≡ summarySize)
-unfolding buffersOk
-buffers-told image edits summary h =
+unfolding bufferSizesOk
+sizes-told image edits summary h =
     let all = both (eqb image placedMax && eqb edits editsSize) (eqb summary summarySize) h in
     let front = both (eqb image placedMax) (eqb edits editsSize) (all .0) in
     (eqb-true _ _ (front .0), eqb-true _ _ (front .1), eqb-true _ _ (all .1))
 
 -- what is left, part by part
-pub left-same : {a b : ℕ} {i j e f s u : List ℕ} → a ≡ b → i ≡ j → e ≡ f → s ≡ u → left a i e s ≡ left b j f u
+pub left-same :
+    {a b : ℕ} {i j e f s u : List ℕ} → a ≡ b → i ≡ j → e ≡ f → s ≡ u → left a (buffers i e s) ≡ left b (buffers j f u)
 left-same p q v w = rw (p, q, v, w)
-
--- the buffers of an accepted payload
-pub written :
-    (t : Target) (file image edits summary : List ℕ) (r : Prepared) → r ≡ acceptedOf t file →
-    left 0 (relocatedOf t file .image) (editsOf (t .text) (r .edits) (r .«edit_count»)) (summaryOf (r .placed) (r .«edit_count») (r .id) (r .dependency))
-    ≡ leftBy t file image edits summary Pass
-written t file image edits summary r e = rw e

@@ -1,6 +1,7 @@
 // Checks of a symbol list and of a file.
 ghost use mathlib.Core.Path.{_≡_};
 ghost use Rattle.abi.specs.Answers.{listAnswer, fileAnswer};
+use machine::processor::Processor;
 
 // Whether the bytes are a symbol list: 0, or the refusal's number.
 #[no_mangle]
@@ -15,7 +16,7 @@ pub extern "C" fn urddolwy_check_symbols(list: &[u8]) -> u64
 pub extern "C" fn urddolwy_check_file(file: &[u8]) -> u64
     ensures { λ r. ⌜ r ≡ fileAnswer (now (file .entry)) ⌝ }
 {
-    let reading = payload::read::read(file);
+    let reading = payload::read::read(Processor::X86_64, file);
     let verdict = reading.verdict;
     verdict.code()
 }

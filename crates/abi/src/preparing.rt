@@ -1,45 +1,48 @@
 // A payload prepared for its slot, into the caller's buffers.
 ghost use mathlib.Core.Path.{_≡_};
-ghost use mathlib.Core.List.{[]};
-ghost use Rattle.acceptance.specs.Stages.{target};
-ghost use Rattle.abi.specs.Preparing.{rangesOk, buffersOk, left, callOf, ZeroExactly};
+ghost use Rattle.acceptance.specs.Stages.{setting};
+ghost use Rattle.abi.specs.Preparing.{hostOf, rangesOk, bufferSizesOk, buffers, left, Answers};
+use machine::host::Host;
+use machine::processor::Processor;
 use records::payload::Payload;
+use records::refusal::Place;
+use records::refusal::Reason;
 use records::refusal::Verdict;
 
-fn ranges_ok(text: u64, size: u64, base: u64) -> bool
-    ensures { λ r. ⌜ r ≡ rangesOk (target text size base []) ⌝ }
+fn ranges_ok(host: Host) -> bool
+    ensures { λ r. ⌜ r ≡ rangesOk host ⌝ }
 {
-    if size < 1 {
+    if host.text_length < 1 {
         return false;
     }
-    if (Payload::TEXT_MAX as u64) < size {
+    if Host::TEXT_MAX < host.text_length {
         return false;
     }
-    if u64::MAX - text < size - 1 {
+    if u64::MAX - host.text < host.text_length - 1 {
         return false;
     }
-    if base < 1 {
+    if host.slot < 1 {
         return false;
     }
-    if u64::MAX - base < Payload::PLACED_MAX as u64 - 1 {
+    if u64::MAX - host.slot < Payload::PLACED_MAX as u64 - 1 {
         return false;
     }
     true
 }
 
-fn buffers_ok(image: usize, edits: usize, summary: usize) -> bool
-    ensures { λ r. ⌜ r ≡ buffersOk image edits summary ⌝ }
+fn buffer_sizes_ok(image: usize, edits: usize, summary: usize) -> bool
+    ensures { λ r. ⌜ r ≡ bufferSizesOk image edits summary ⌝ }
 {
     if image != Payload::PLACED_MAX {
         return false;
     }
-    if edits != 48 * Payload::RECORDS_MAX {
+    if edits != encode::ENTRY_SIZE * Payload::RECORDS_MAX {
         return false;
     }
-    summary == 16 + 2 * Payload::ID_MAX
+    summary == encode::SUMMARY_SIZE
 }
 
-// The payload `file` for the slot at `base` and the `size` bytes of text at `text`: 0, or the refusal's number. Accepted, the slot's
+// The payload `file` for the slot at `slot` and the `size` bytes of text at `text`: 0, or the refusal's number. Accepted, the slot's
 // bytes, the edits and the summary are written; refused, nothing is.
 #[no_mangle]
 pub extern "C" fn urddolwy_prepare(
@@ -47,30 +50,39 @@ pub extern "C" fn urddolwy_prepare(
     list: &[u8],
     text: u64,
     size: u64,
-    base: u64,
+    slot: u64,
     image: &mut [u8],
     edits: &mut [u8],
     summary: &mut [u8],
 ) -> u64
-    ensures { λ r. ⌜ (left r (now (image .exit)) (now (edits .exit)) (now (summary .exit)) ≡ callOf (target text size base (now (list .entry))) (now (file .entry)) (now (image .entry)) (now (edits .entry)) (now (summary .entry))) × ZeroExactly (target text size base (now (list .entry))) (now (file .entry)) (now (image .entry)) (now (edits .entry)) (now (summary .entry)) r ⌝ }
+    ensures { λ r. ⌜ Answers (setting (hostOf text size slot) (now (list .entry))) (now (file .entry))
+        (buffers (now (image .entry)) (now (edits .entry)) (now (summary .entry)))
+        (left r (buffers (now (image .exit)) (now (edits .exit)) (now (summary .exit)))) ⌝ }
 {
-    if !buffers_ok(image.len(), edits.len(), summary.len()) {
-        return 22;
+    let host = Host {
+        processor: Processor::X86_64,
+        text,
+        text_length: size,
+        slot,
+    };
+    let bad = Verdict::refused(Reason::Invalid, Place::Nowhere);
+    if !buffer_sizes_ok(image.len(), edits.len(), summary.len()) {
+        return bad.code();
     }
-    if !ranges_ok(text, size, base) {
-        return 22;
+    if !ranges_ok(host) {
+        return bad.code();
     }
     if !symbols::is_valid(list) {
-        return 22;
+        return bad.code();
     }
-    let prepared = prepare::prepare::prepare(file, list, text, size, base, image);
+    let prepared = prepare::prepare::prepare(file, list, host, image);
     let verdict = prepared.verdict;
     if let Verdict::Refuse(r) = verdict {
         return r.code();
     }
     let made = prepared.edits;
     let count = prepared.edit_count;
-    encode::write_edits(edits, text, made, count);
+    encode::write_edits(edits, host, made, count);
     let id = prepared.id;
     let dependency = prepared.dependency;
     encode::write_summary(summary, prepared.placed, count as u64, id, dependency);

@@ -1,5 +1,6 @@
 pub mod AlikeSections
 pub mod AlikeStages
+pub mod Barred
 pub mod Exactness
 pub mod FunctionRules
 pub mod KnownAnswers

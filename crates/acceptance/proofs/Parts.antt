@@ -43,9 +43,11 @@ module _ (a b : List ℕ) (size : length a ≡ length b) where
 
 -- ---- tests, and numbers gone through
 
-pub cond-alike : {A : Type 0} (t : Bool) (x y z : A) → (t ≡ true → x ≡ y) → cond t x z ≡ cond t y z
-cond-alike true x y z same = same refl
-cond-alike false x y z same = refl
+-- a choice of which the answers agree where they are chosen
+pub cond-alike :
+    {A : Type 0} (t : Bool) (x y z w : A) → (t ≡ true → x ≡ y) → (t ≡ false → z ≡ w) → cond t x z ≡ cond t y w
+cond-alike true x y z w first second = first refl
+cond-alike false x y z w first second = second refl
 
 pub scan-alike :
     {A : Type 0} (f g : ℕ → A → A) (last : A) (i k : ℕ) →

@@ -1,44 +1,36 @@
 -- The rule of placement: kept where it passes, broken where it refuses, and never both.
 use Prim.Native.Nat.{ℕ, zero, suc, _≤_, _<_}
-use mathlib.Core.Path.{_≡_, refl}
-use mathlib.Core.Bool.{Bool, true, false}
+use mathlib.Core.Path.{_≡_}
+use mathlib.Core.Bool.{true, false}
 use mathlib.Core.List.{List}
 use native.Mathlib.Omega.{arith}
-use borrow.Author.Tests.{leb-false}
+use borrow.Author.Tests.{leb-true, leb-false}
 use lib.Dec.{leb}
 use Rattle.records.specs.Limits.{placedMax}
-use Rattle.records.specs.Verdict.{must}
-use Rattle.records.specs.declared.refusal.Reason.the-variants.{NoRoom}
-use Rattle.records.specs.declared.refusal.Place.the-variants.{Section}
-use Rattle.object.specs.Sections.{sectionCount, sections, sectionIn}
+use Rattle.object.specs.Sections.{sectionCount, sections}
 use Rattle.object.specs.declared.sections.SectionEntry.{SectionEntry}
-use Rattle.placement.specs.Placement.{isPlaced, endBefore, offsetOf, placementRules}
-use Rattle.placement.proofs.PlacementLaws.{placed-inside, end-inside}
+use Rattle.placement.specs.Placement.{endBefore, placementRules}
+use Rattle.placement.proofs.PlacementLaws.{end-rises}
 use Rattle.acceptance.specs.Broken.Broken.{placed}
-use Rattle.acceptance.specs.Stages.{Target, placedLength}
-use Rattle.acceptance.proofs.Told.{Tells, told-must, told-scan}
+use Rattle.acceptance.specs.Stages.{Setting, placedLength}
+use Rattle.acceptance.proofs.Told.{Tells, told-as, told-must, told-scan}
 
--- what is placed never ends earlier with more sections
-pub ends-rise : (ss : List SectionEntry) (i n : ℕ) → i ≤ n → endBefore ss i ≤ endBefore ss n
-unfolding endBefore offsetOf
-ends-rise ss zero n h = omega arith
-ends-rise ss (suc i) n h = by-cases (isPlaced (sectionIn ss i)) refl (ends-rise ss i n (omega arith))
-  where
-    by-cases : (b : Bool) → isPlaced (sectionIn ss i) ≡ b → endBefore ss i ≤ endBefore ss n → endBefore ss (suc i) ≤ endBefore ss n
-    by-cases true e before = rw e (rw e at (placed-inside ss n i h e))
-    by-cases false e before = rw e before
+-- where each of the first n sections ends inside the slot, what they take fits it
+ends-fit :
+    (ss : List SectionEntry) (n : ℕ) → ((i : ℕ) → i < n → leb (endBefore ss (suc i)) placedMax ≡ true) → endBefore ss n ≤ placedMax
+unfolding endBefore
+ends-fit ss zero each = omega arith
+ends-fit ss (suc n) each = leb-true _ _ (each n (omega arith))
+
+pub placement-told : (t : Setting) (file : List ℕ) → Tells t file (placedLength file ≤ placedMax) (placementRules (sections file) (sectionCount file))
+unfolding placementRules
+placement-told t file =
+    told-as (ends-fit (sections file) (sectionCount file))
+    (told-scan _ _ λ i below before. told-must _ 12 _ (placed i below (ends-fit (sections file) i before)))
 
 -- where one section passes 8,192, all of them together do
 pub passes-limit :
     (file : List ℕ) (i : ℕ) → i < sectionCount file → leb (endBefore (sections file) (suc i)) placedMax ≡ false →
     placedLength file ≤ placedMax → ⊥
 passes-limit file i below over inside =
-    omega (arith, leb-false (endBefore (sections file) (suc i)) placedMax over, ends-rise (sections file) (suc i) (sectionCount file) below)
-
-pub placement-told : (t : Target) (file : List ℕ) → Tells t file (placedLength file ≤ placedMax) (placementRules (sections file) (sectionCount file))
-unfolding placementRules
-placement-told t file =
-    record {
-      kept = end-inside (sections file) (sectionCount file);
-      broken = told-scan (λ i. must (leb (endBefore (sections file) (suc i)) placedMax) NoRoom (Section i)) (sectionCount file) (λ i below. told-must _ _ _ (placed i below)) .broken;
-    }
+    omega (arith, leb-false (endBefore (sections file) (suc i)) placedMax over, end-rises (sections file) (suc i) (sectionCount file) below)

@@ -1,23 +1,23 @@
 -- Which sections are read: those whose contents a rule asks for, and neither an ignored one nor the relocations of one.
 use Prim.Native.Nat.{ℕ, _<_}
 use mathlib.Core.Path.{_≡_, refl, sym, _∙_}
-use mathlib.Core.Bool.{Bool, true, false, cond, _||_, or-true, and-false, false≢true}
+use mathlib.Core.Bool.{Bool, true, false, cond, _||_, or-true, or-false, and-false, false≢true}
 use mathlib.Core.List.{List}
-use borrow.Author.Tests.{ne-eqb}
+use borrow.Author.Tests.{eqb-true, ne-eqb}
 use Rattle.words.specs.Order.{equal}
 use Rattle.words.specs.Text.{ascii}
-use Rattle.elf.specs.Name.{Name, named, unnamed, nameIn}
+use Rattle.words.proofs.Tests.{both}
+use Rattle.elf.specs.Name.{Name, named, unnamed}
 use Rattle.elf.specs.declared.SectionHeader.{SectionHeader}
-use Rattle.object.specs.Kinds.{isAllocated, hasType, kindNamed, kindOf, isKind}
-use Rattle.object.specs.Sections.{sectionCount, headerAt, nameTable, sections}
+use Rattle.object.specs.Kinds.{isAllocated, hasType, kindNamed, kindOf, kindCode, isKind, isNoteKind}
+use Rattle.object.specs.Sections.{sectionCount, headerAt, noEntry, sectionName, sections}
 use Rattle.object.specs.declared.kinds.Kind.{Kind}
-use Rattle.object.specs.declared.kinds.Kind.the-variants.{Null, Symbols, Strings, Relocations, Ignored, Unknown}
+use Rattle.object.specs.declared.kinds.Kind.the-variants.{Symbols, Strings, Relocations, Ignored, Unknown}
 use Rattle.object.specs.declared.sections.SectionEntry.{SectionEntry}
-use Rattle.payload.specs.Notes.{isNoteKind}
 use Rattle.placement.specs.Placement.{isPlaced, hasContents}
 use Rattle.relocation.specs.Relocating.{isRelocating}
-use Rattle.object.proofs.SectionLaws.{section-in}
-use Rattle.acceptance.specs.Consulted.{isRead}
+use Rattle.object.proofs.SectionLaws.{read-null, read-kind, read-type, read-typed, section-in}
+use Rattle.acceptance.specs.Consulted.{within, inSectionHeader, isRead, isIgnored}
 use Rattle.acceptance.specs.Rules.{section}
 
 -- ---- sections that are read
@@ -40,10 +40,11 @@ module _ (ss : List SectionEntry) (s : SectionEntry) where
 
 -- ---- sections that are not read
 
--- the kinds of which a section may be left unread
+-- the kinds by which a section may be left unread
 abbrev isLeft : Kind → Bool
-isLeft k = isKind k Null || isKind k Ignored || isKind k Relocations
+isLeft k = isKind k Ignored || isKind k Relocations
 
+-- what the name makes of a section of type 3 is none of them
 named-left : (p q r s : Bool) → isLeft (cond p Unknown (cond q Unknown (cond r Unknown (cond s Unknown Strings)))) ≡ false
 named-left true q r s = refl
 named-left false true r s = refl
@@ -51,23 +52,33 @@ named-left false false true s = refl
 named-left false false false true = refl
 named-left false false false false = refl
 
--- a section of type 3 is of none of them
 strings-left : (h : SectionHeader) (name : Name) → h .«sh_type» ≡ 3 → isLeft (kindOf h name) ≡ false
-unfolding kindOf kindNamed
+unfolding kindNamed
 strings-left h (named name) e =
-    simp (e, and-false)
-    (named-left (equal name (ascii ".livepatch.funcs")) (equal name (ascii ".livepatch.depends")) (equal name (ascii ".note.gnu.build-id")) (isAllocated h))
-strings-left h unnamed e = simp e
+    let funcs = equal name (ascii ".livepatch.funcs") in
+    let depends = equal name (ascii ".livepatch.depends") in
+    let id = equal name (ascii ".note.gnu.build-id") in
+    simp (e, and-false) (named-left funcs depends id (isAllocated h))
+strings-left h unnamed e = refl
+
+-- "of a type 0 section only the type is consulted": of its header
+pub type-0-header : (h : SectionHeader) (q : ℕ) → hasType 0 h ≡ true → inSectionHeader h q ≡ within 4 4 q
+unfolding inSectionHeader
+type-0-header h q typed = rw (typed, or-false)
 
 module _ (file : List ℕ) (i : ℕ) (below : i < sectionCount file) where
+  -- a section of type 0 is read as none
+  null-read : hasType 0 (section file i .header) ≡ true → section file i ≡ noEntry
+  null-read e =
+      let same = section-in file i below in
+      same ∙ read-null file i (sym (read-typed file i 0) ∙ rw same at e)
+
   left-typed : isLeft (section file i .kind) ≡ true → hasType 3 (section file i .header) ≡ false
   left-typed left = ne-eqb (section file i .header .«sh_type») 3 λ e.
       let same = section-in file i below in
-      false≢true (sym (strings-left (headerAt file i) (nameIn (nameTable file) (headerAt file i .«sh_name»)) (rw same at e)) ∙ rw same at left)
-
-  null-kind : hasType 0 (section file i .header) ≡ true → section file i .kind ≡ Null
-  unfolding kindOf
-  null-kind e = let same = section-in file i below in rw same (rw (rw same at e))
+      let typed : headerAt file i .«sh_type» ≡ 3 = sym (read-type file i) ∙ rw same at e in
+      let some : hasType 0 (headerAt file i) ≡ false = rw typed in
+      false≢true (sym (strings-left (headerAt file i) (sectionName file i) typed) ∙ rw (same, read-kind file i some) at left)
 
   -- "Ignored: without 0x2, type 1, .."
   pub ignored-not-read : section file i .kind ≡ Ignored → isRead (sections file) (section file i) ≡ false
@@ -76,8 +87,8 @@ module _ (file : List ℕ) (i : ℕ) (below : i < sectionCount file) where
 
   -- "and every type 0"
   pub type-0-not-read : hasType 0 (section file i .header) ≡ true → isRead (sections file) (section file i) ≡ false
-  unfolding hasContents isPlaced isRelocating
-  type-0-not-read typed = let e = null-kind typed in rw (left-typed (rw e), e)
+  unfolding hasContents isPlaced isRelocating noEntry
+  type-0-not-read typed = rw (null-read typed)
 
   -- "in the second case the type 4 contents are ignored too"
   pub ignored-relocations-not-read :
@@ -85,3 +96,19 @@ module _ (file : List ℕ) (i : ℕ) (below : i < sectionCount file) where
       isRead (sections file) (section file i) ≡ false
   unfolding hasContents isPlaced isRelocating
   ignored-relocations-not-read e target = rw (left-typed (rw e), e, target)
+
+  -- so no ignored contents are read by themselves
+  pub ignored-unread : isIgnored (sections file) (section file i) ≡ true → isRead (sections file) (section file i) ≡ false
+  unfolding hasContents isPlaced isRelocating
+  ignored-unread e = by-kind (isKind (section file i .kind) Ignored) refl
+    where
+      by-type : (b : Bool) → hasType 0 (section file i .header) ≡ b → isKind (section file i .kind) Ignored ≡ false → isRead (sections file) (section file i) ≡ false
+      by-type true typed other = type-0-not-read typed
+      by-type false typed other =
+          let target = section file (section file i .header .«sh_info») .kind in
+          let joined = both (isKind (section file i .kind) Relocations) (isKind target Ignored) (rw (other, typed) at e) in
+          rw (left-typed (rw (joined .0, or-true)), eqb-true (kindCode (section file i .kind)) (kindCode Relocations) (joined .0), joined .1)
+
+      by-kind : (b : Bool) → isKind (section file i .kind) Ignored ≡ b → isRead (sections file) (section file i) ≡ false
+      by-kind true ignored = rw (left-typed (rw ignored), eqb-true (kindCode (section file i .kind)) (kindCode Ignored) ignored)
+      by-kind false other = by-type (hasType 0 (section file i .header)) refl other

@@ -1,116 +1,152 @@
 -- The rules of relocations: where all pass, each is kept, and where one refuses, that one is broken.
-use Prim.Native.Nat.{ℕ, _+_, _≤_, _<_}
-use mathlib.Core.Path.{_≡_, refl, sym, _∙_}
-use mathlib.Core.Bool.{true, false, false≢true}
+use Prim.Native.Nat.{ℕ, _+_, _<_}
+use mathlib.Core.Path.{_≡_, refl, subst}
+use mathlib.Core.Bool.{Bool, true, _&&_}
 use mathlib.Core.List.{List}
 use borrow.Author.Tests.{leb-true}
 use lib.Dec.{leb}
-use Rattle.records.specs.declared.refusal.Reason.the-variants.{Unsupported}
+use Rattle.words.proofs.Tests.{both, either-fails}
 use Rattle.elf.specs.declared.Relocation.{Relocation}
-use Rattle.machine.specs.Relocations.{widthOf, inRange}
-use Rattle.machine.specs.declared.RelocationType.{RelocationType}
-use Rattle.machine.specs.declared.RelocationType.the-variants.{Nothing, Absolute, Relative, Unknown}
+use Rattle.machine.specs.Host.{ruleOf}
+use Rattle.machine.specs.declared.fields.Checked.{Checked}
+use Rattle.machine.specs.declared.fields.Checked.the-variants.{Right, Wrong}
+use Rattle.machine.specs.declared.fields.FieldType.{FieldType}
+use Rattle.machine.specs.declared.processor.RelocationType.{RelocationType}
+use Rattle.machine.specs.declared.processor.RelocationType.the-variants.{Nothing, Stores, Unknown}
+use Rattle.object.specs.Kinds.{isKind}
 use Rattle.object.specs.Sections.{sectionCount, sections}
-use Rattle.relocation.specs.Entries.{entryCount}
+use Rattle.object.specs.declared.kinds.Kind.the-variants.{Relocations}
+use Rattle.object.specs.declared.sections.SectionEntry.{SectionEntry}
 use Rattle.linking.specs.Linking.{Linking}
-use Rattle.relocation.specs.Relocating.{withSymbol, inField, byType, fieldOf, faultOf, isRelocating}
-use Rattle.relocation.specs.declared.fields.Field.{Field}
-use Rattle.relocation.specs.declared.fields.Field.the-variants.{Skip, Fault}
 use Rattle.linking.specs.declared.values.SymbolValue.{SymbolValue}
 use Rattle.linking.specs.declared.values.SymbolValue.the-variants.{Value, Refused}
-use Rattle.acceptance.specs.Broken.Broken.{relocation-types, relocation-fields, relocation-symbols, relocation-ranges}
-use Rattle.acceptance.specs.Keeps.{KeepsRelocations}
-use Rattle.acceptance.specs.Rules.{section, contentsAt, Made, relocationAt, typeAt, targetAt, isKnown, isStored, symbolAt, resultAt}
-use Rattle.acceptance.specs.Stages.{Target, linkingFor, relocatedOf}
+use Rattle.relocation.specs.Entries.{relocationCount}
+use Rattle.relocation.specs.Relocating.{checkedField, withSymbol, fieldOk, inField, byType, fieldOf, fieldVerdict, isRelocating}
+use Rattle.relocation.specs.declared.fields.Field.{Field}
+use Rattle.acceptance.specs.Broken.Broken.{
+  relocation-types,
+  relocation-fields,
+  relocation-places,
+  relocation-symbols,
+  relocation-ranges,
+}
+use Rattle.acceptance.specs.Keeps.{KeepsReading, KeepsRelocations}
+use Rattle.acceptance.specs.Rules.{section, contentsAt, Made, relocationAt, typeAt, areaAt, placeAt, symbolAt, resultAt}
+use Rattle.acceptance.specs.Stages.{Setting, machineAt, linkingFor, relocatedOf}
 use Rattle.acceptance.proofs.RelocationVerdict.{fieldAt, entryRules, sectionRules, relocated-verdict}
 use Rattle.acceptance.proofs.Told.{by-test, Tells, passes, refuses, told-as, told-where, told-scan}
+
+-- a section whose relocations are made is a relocation section
+relocating-kind : (ss : List SectionEntry) (s : SectionEntry) → isRelocating ss s ≡ true → isKind (s .kind) Relocations ≡ true
+unfolding isRelocating
+relocating-kind ss s e = both _ _ e .0
 
 -- a symbol has one value
 same-value : {v : SymbolValue} {a b : ℕ} → v ≡ Value a → v ≡ Value b → a ≡ b
 same-value h g = cc
 
--- what holds of nothing, of a stored field and of the fault of an unknown type holds of the field of each type
-by-type :
-    (P : Field → Type 0) (l : Linking) (target size : ℕ) (r : Relocation) (ty : RelocationType) →
-    (isKnown ty ≡ true → isStored ty ≡ false → P Skip) →
-    (isKnown ty ≡ true → isStored ty ≡ true → P (inField l target size r ty)) →
-    (isKnown ty ≡ false → P (Fault Unsupported)) →
-    P (byType l target size r ty)
-by-type P l target size r Nothing nothing stored unknown = nothing refl refl
-by-type P l target size r Absolute nothing stored unknown = stored refl refl
-by-type P l target size r Relative nothing stored unknown = stored refl refl
-by-type P l target size r Unknown nothing stored unknown = unknown refl
+module _ (t : Setting) (file : List ℕ) where
+  abbrev l : Linking
+  l = linkingFor t file
 
-module _ (t : Target) (file : List ℕ) where
   -- ---- one relocation: entry e of section i
 
   module _ (i e : ℕ) where
-    -- the size of the section that it is made in
-    abbrev size : ℕ
-    size = section file (targetAt file i) .header .«sh_size»
+    abbrev entry : Relocation
+    entry = relocationAt file i e
 
-    -- the rules of one that stores
-    record Stored : Type 0 where
-      inside : relocationAt file i e .«r_offset» + widthOf (typeAt file i e) ≤ size
+    abbrev type : RelocationType
+    type = typeAt (machineAt t) file i e
+
+    -- its field lies inside the section, and stands where the machine lets it
+    abbrev inside : FieldType → Bool
+    inside f = leb (entry .«r_offset» + ruleOf f .width) (areaAt file i .size)
+
+    abbrev aligned : FieldType → Bool
+    aligned f = ruleOf f .aligned (placeAt t file i e)
+
+    -- the rules of one that stores a field of this type
+    record Stored (f : FieldType) : Type 0 where
+      in-section : inside f ≡ true
+      in-place : aligned f ≡ true
       symbol : ℕ
       valued : symbolAt t file i e ≡ Value symbol
-      ranged : inRange (typeAt file i e) (resultAt t file i e symbol) ≡ true
+      ranged : ruleOf f .fault (resultAt t file i e f symbol) ≡ Right
 
-    -- the rules of any
-    abbrev Kept : Type 0
-    Kept = (isKnown (typeAt file i e) ≡ true) × (isStored (typeAt file i e) ≡ true → Stored)
+    -- the rules of one of any type
+    abbrev Kept : RelocationType → Type 0
+    Kept Nothing = Unit {0}
+    Kept (Stores f) = Stored f
+    Kept Unknown = ⊥
 
     -- what the field, or the fault, tells of it
     abbrev Told : Type 0 → Field → Type 0
-    Told K f = Tells t file K (faultOf f i e)
+    Told K field = Tells t file K (fieldVerdict field i e)
 
     module _ (made : Made file i e) where
-      module _ (stored : isStored (typeAt file i e) ≡ true) where
-        by-symbol :
-            relocationAt file i e .«r_offset» + widthOf (typeAt file i e) ≤ size → (s : SymbolValue) → symbolAt t file i e ≡ s →
-            Told Stored (withSymbol (linkingFor t file) (targetAt file i) (relocationAt file i e) (typeAt file i e) s)
-        by-symbol inside (Value s) same =
-            by-test (Told Stored) (inRange (typeAt file i e) (resultAt t file i e s)) _ _
-            (λ within. passes record { inside = inside; symbol = s; valued = same; ranged = within })
-            (λ beyond. refuses (relocation-ranges i e s made stored same beyond))
-        by-symbol inside (Refused reason) same = refuses (relocation-symbols i e reason made stored same)
+      module _ (f : FieldType) (stores : type ≡ Stores f) where
+        module _ (in-section : inside f ≡ true) (in-place : aligned f ≡ true) where
+          -- by what is wrong with its value, if anything is
+          by-value :
+              (s at : ℕ) → symbolAt t file i e ≡ Value s → (c : Checked) → ruleOf f .fault (resultAt t file i e f s) ≡ c →
+              Told (Stored f) (checkedField f at (resultAt t file i e f s) c)
+          by-value s at same Right ranged =
+              passes record { in-section = in-section; in-place = in-place; symbol = s; valued = same; ranged = ranged }
+          by-value s at same (Wrong reason) beyond = refuses (relocation-ranges i e s f reason made stores same beyond)
 
-        by-field : Told Stored (inField (linkingFor t file) (targetAt file i) size (relocationAt file i e) (typeAt file i e))
+          -- by its symbol
+          by-symbol : (s : SymbolValue) → symbolAt t file i e ≡ s → Told (Stored f) (withSymbol l (areaAt file i) entry f s)
+          by-symbol (Value s) same = by-value s _ same (ruleOf f .fault (resultAt t file i e f s)) refl
+          by-symbol (Refused reason) same = refuses (relocation-symbols i e f reason made stores same)
+
+        -- by its field
+        by-field : Told (Stored f) (inField l (areaAt file i) entry f)
+        unfolding fieldOk
         by-field =
-            by-test (Told Stored) (leb (relocationAt file i e .«r_offset» + widthOf (typeAt file i e)) size) _ _
-            (λ inside. by-symbol (leb-true _ _ inside) (symbolAt t file i e) refl)
-            (λ outside. refuses (relocation-fields i e made stored outside))
+            by-test (Told (Stored f)) (inside f && aligned f) _ _
+            (λ right. let h = both (inside f) (aligned f) right in by-symbol (h .0) (h .1) (symbolAt t file i e) refl)
+            (either-fails (inside f) (aligned f)
+            (λ h. refuses (relocation-fields i e f made stores h))
+            (λ h. refuses (relocation-places i e f made stores h)))
 
-      told : Told Kept (fieldAt t file i e)
+      -- by its type
+      by-type : (ty : RelocationType) → type ≡ ty → Told (Kept ty) (byType l (areaAt file i) entry ty)
+      by-type Nothing same = passes tt
+      by-type (Stores f) same = by-field f same
+      by-type Unknown same = refuses (relocation-types i e made same)
+
+      -- what the verdict on it tells
+      told : Told (Kept type) (fieldAt t file i e)
       unfolding fieldOf
-      told =
-          by-type (Told Kept) (linkingFor t file) (targetAt file i) size (relocationAt file i e) (typeAt file i e)
-          (λ known nothing. passes (known, λ h. absurd (false≢true (sym nothing ∙ h))))
-          (λ known stored. told-as (λ kept. (known, λ h. kept)) (by-field stored))
-          (λ unknown. refuses (relocation-types i e made unknown))
+      told = by-type type refl
 
   -- ---- all relocations
 
+  -- where the rules of each are kept, all rules of relocations are
   all-kept :
       ((i : ℕ) → i < sectionCount file → isRelocating (sections file) (section file i) ≡ true →
-      (e : ℕ) → e < entryCount (contentsAt file i) → Kept i e) →
+      (e : ℕ) → e < relocationCount (contentsAt file i) → Kept i e (type i e)) →
       KeepsRelocations t file
   all-kept all =
       record {
-        relocation-types = λ i e m. kept i e m .0;
-        relocation-fields = λ i e m h. kept i e m .1 h .inside;
-        relocation-symbols = λ i e m h. (kept i e m .1 h .symbol, kept i e m .1 h .valued);
-        relocation-ranges = λ i e s m h v. rw (same-value v (kept i e m .1 h .valued)) (kept i e m .1 h .ranged);
+        relocation-types = λ i e made same. kept i e made same;
+        relocation-fields = λ i e f made same. leb-true _ _ (kept i e made same .in-section);
+        relocation-places = λ i e f made same. kept i e made same .in-place;
+        relocation-symbols = λ i e f made same. (kept i e made same .symbol, kept i e made same .valued);
+        relocation-ranges = λ i e s f made same value.
+            let stored = kept i e made same in
+            rw (same-value value (stored .valued)) (stored .ranged);
       }
     where
-      kept : (i e : ℕ) → Made file i e → Kept i e
-      kept i e m = all i (m .below) (m .relocating) e (m .counted)
+      kept : (i e : ℕ) → Made file i e → {ty : RelocationType} → type i e ≡ ty → Kept i e ty
+      kept i e made same = subst (Kept i e) same (all i (made .below) (made .relocating) e (made .counted))
 
-  pub relocations-told : Tells t file (KeepsRelocations t file) (relocatedOf t file .verdict)
-  relocations-told =
+  pub relocations-told : KeepsReading (machineAt t) file → Tells t file (KeepsRelocations t file) (relocatedOf t file .verdict)
+  relocations-told reading =
       rw (relocated-verdict t file)
       (told-as all-kept
-      (told-scan (sectionRules t file) (sectionCount file) λ i below.
+      (told-scan (sectionRules t file) (sectionCount file) λ i below earlier.
       told-where _ (entryRules t file i) λ relocating.
-      told-scan (λ e. faultOf (fieldAt t file i e) i e) _ λ e counted.
-      told i e (record { below = below; relocating = relocating; counted = counted })))
+      let headed = reading .relocation-headers i below (relocating-kind _ _ relocating) in
+      told-scan (λ e. fieldVerdict (fieldAt t file i e) i e) _ λ e counted before.
+      told i e (record { below = below; relocating = relocating; headed = headed; counted = counted })))

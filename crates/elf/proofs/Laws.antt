@@ -1,6 +1,7 @@
--- A name that a string table has: its bytes, the zero after it, and that none of its own bytes is zero.
-use Prim.Native.Nat.{ℕ, _+_, _-_, _<_}
-use mathlib.Core.Path.{_≡_, refl, ap}
+-- A name that a table has: how it is cut out where its ending zero was found, its bytes, the zero after it, and that none of its own
+-- bytes is zero.
+use Prim.Native.Nat.{ℕ, _+_, _-_, _≤_, _<_}
+use mathlib.Core.Path.{_≡_, refl, sym, ap, _∙_}
 use mathlib.Core.Bool.{false}
 use mathlib.Core.List.{List}
 use native.Mathlib.Omega.{arith}
@@ -9,9 +10,38 @@ use Rattle.words.specs.declared.bytes.Found.{Found}
 use Rattle.words.specs.declared.bytes.Found.the-variants.{At, Nothing}
 use Rattle.words.specs.Splice.{part}
 use Rattle.words.specs.Name.{zeroFrom, isFound, hasZero}
-use Rattle.words.proofs.Name.{FirstZero, zero-at}
+use Rattle.words.proofs.Name.{zero-at}
 use Rattle.words.proofs.Splice.{length-part, getD-part}
-use Rattle.elf.specs.Name.{named, endedAt, nameIn}
+use Rattle.elf.specs.Name.{named, unnamed, endedAt, nameIn}
+
+-- ---- a name cut out of its table
+
+-- the name at offset whose ending zero stands at end: the bytes from offset to end
+pub record Cut (table : List ℕ) (offset end : ℕ) : Type 0 where
+  pub low : offset ≤ end
+  pub high : end < length table
+  pub name : nameIn table offset ≡ named (part table offset (end - offset))
+  pub size : length (part table offset (end - offset)) ≡ end - offset
+
+-- by what the search for the ending zero answered
+module _ (table : List ℕ) (offset : ℕ) {found : Found} (searched : found ≡ zeroFrom table offset) where
+  pub name-found : {end : ℕ} → found ≡ At end → Cut table offset end
+  unfolding nameIn
+  name-found {end} e =
+      let ended : zeroFrom table offset ≡ At end = sym searched ∙ e in
+      let z = zero-at table offset end ended in
+      record {
+        low = z .low;
+        high = z .high;
+        name = rw ended;
+        size = length-part table offset (end - offset) (omega (arith, z .low, z .high));
+      }
+
+  pub name-missing : found ≡ Nothing → nameIn table offset ≡ unnamed
+  unfolding nameIn
+  name-missing e = rw (← searched, e)
+
+-- ---- its bytes
 
 pub has-no-zero : (s : List ℕ) → ((j : ℕ) → j < length s → getD s j 0 ≡ 0 → ⊥) → hasZero s ≡ false
 has-no-zero s h = by-cases (zeroFrom s 0) refl
@@ -27,16 +57,19 @@ pub record NameAt (table : List ℕ) (offset : ℕ) (n : List ℕ) : Type 0 wher
   pub no-zero : (j : ℕ) → j < length n → getD n j 0 ≡ 0 → ⊥
 
 module _ (table : List ℕ) (offset : ℕ) where
-  -- the m bytes before the first zero
-  before-zero : (m : ℕ) → FirstZero table offset (offset + m) → NameAt table offset (part table offset m)
-  before-zero m z =
-      let high : offset + m < length table = z .high in
-      let size : length (part table offset m) ≡ m = length-part table offset m (omega arith) in
+  -- the bytes before the first zero
+  before-zero : (end : ℕ) → zeroFrom table offset ≡ At end → NameAt table offset (part table offset (end - offset))
+  before-zero end f =
+      let z = zero-at table offset end f in
+      let cut : Cut table offset end = name-found table offset refl f in
+      let place : offset + (end - offset) ≡ end = omega (arith, z .low) in
       record {
-        bytes = rw size;
-        within = rw size high;
-        ended = rw size (z .zero-there);
-        no-zero = λ j g. let h : j < m = omega arith in rw (getD-part table offset m j 0 h) (z .none-before (offset + j) (omega arith) (omega arith));
+        bytes = rw (cut .size);
+        within = rw (cut .size, place) (z .high);
+        ended = rw (cut .size, place) (z .zero-there);
+        no-zero = λ j g.
+            let h : j < end - offset = omega (arith, cut .size) in
+            rw (getD-part table offset (end - offset) j 0 h) (z .none-before (offset + j) (omega arith) (omega arith));
       }
 
   pub name-at : (n : List ℕ) → nameIn table offset ≡ named n → NameAt table offset n
@@ -44,11 +77,7 @@ module _ (table : List ℕ) (offset : ℕ) where
   name-at n e = by-cases (zeroFrom table offset) refl e
     where
       by-cases : (f : Found) → zeroFrom table offset ≡ f → endedAt table offset f ≡ named n → NameAt table offset n
-      by-cases (At end) f e =
-          let same : part table offset (end - offset) ≡ n = cc in
-          let z = zero-at table offset end f in
-          let place : end ≡ offset + (end - offset) = omega (arith, z .low) in
-          rw (← same) (before-zero (end - offset) (rw place at z))
+      by-cases (At end) f e = let same : part table offset (end - offset) ≡ n = cc in rw (← same) (before-zero end f)
       by-cases Nothing f e = let z : _≡_ {A = ℕ} 0 1 = cc in absurd (omega arith)
 
   pub name-has-no-zero : (n : List ℕ) → nameIn table offset ≡ named n → hasZero n ≡ false

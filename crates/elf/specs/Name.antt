@@ -1,5 +1,6 @@
 -- Names in a string table.
 use Prim.Native.Nat.{ℕ, _-_}
+use mathlib.Core.Bool.{Bool, true, false}
 use mathlib.Core.List.{List}
 use Rattle.words.specs.Splice.{part}
 use Rattle.words.specs.Name.{zeroFrom}
@@ -9,6 +10,10 @@ use Rattle.words.specs.declared.bytes.Found.the-variants.{At, Nothing}
 pub data Name : Type 0 where
   named : List ℕ → Name
   unnamed : Name
+
+abbrev pub isNamed : Name → Bool
+isNamed (named name) = true
+isNamed unnamed = false
 
 abbrev pub endedAt : List ℕ → ℕ → Found → Name
 endedAt table offset (At end) = named (part table offset (end - offset))

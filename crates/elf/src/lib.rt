@@ -1,21 +1,20 @@
 // The ELF gABI's layouts, 64-bit and little-endian, read into structs by value.
-// A `read_` function reads bytes that its caller knows to be there. The others answer for any bytes and any offset.
+// A `read_` function reads bytes that its caller knows to be there.
 ghost use mathlib.Core.Path.{_≡_};
 ghost use Prim.Native.Nat.{_+_, _≤_};
-ghost use lib.Dec.{leb};
 ghost use lib.ListN.{length};
 ghost use Rattle.words.specs.Name.{zeroFrom};
 ghost use Rattle.elf.specs.Layout.{
+  fileHeaderSize,
+  sectionHeaderSize,
+  symbolSize,
+  relocationSize,
+  noteHeadSize,
   fileHeaderOf,
-  fileHeader,
   sectionHeaderOf,
-  sectionHeader,
   symbolOf,
-  symbol,
   relocationOf,
-  relocation,
   noteOf,
-  note,
 };
 ghost use Rattle.elf.specs.Ranges.{
   FileHeaderRanges,
@@ -25,6 +24,17 @@ ghost use Rattle.elf.specs.Ranges.{
   NoteRanges,
 };
 use words::bytes::Found;
+
+// The bytes of each.
+pub const FILE_HEADER_SIZE: usize = 64;
+
+pub const SECTION_HEADER_SIZE: usize = 64;
+
+pub const SYMBOL_SIZE: usize = 24;
+
+pub const RELOCATION_SIZE: usize = 24;
+
+pub const NOTE_HEAD_SIZE: usize = 16;
 
 pub struct FileHeader {
     pub magic: u64,
@@ -40,11 +50,6 @@ pub struct FileHeader {
     pub e_shstrndx: u64,
 }
 
-pub enum FileHeaderRead {
-    Whole(FileHeader),
-    Outside,
-}
-
 pub struct SectionHeader {
     pub sh_name: u64,
     pub sh_type: u64,
@@ -57,21 +62,11 @@ pub struct SectionHeader {
     pub sh_entsize: u64,
 }
 
-pub enum SectionHeaderRead {
-    Whole(SectionHeader),
-    Outside,
-}
-
 pub struct Symbol {
     pub st_name: u64,
     pub st_info: u64,
     pub st_shndx: u64,
     pub st_value: u64,
-}
-
-pub enum SymbolRead {
-    Whole(Symbol),
-    Outside,
 }
 
 // r_info's low half is the type and its high half the symbol.
@@ -82,11 +77,6 @@ pub struct Relocation {
     pub r_addend: u64,
 }
 
-pub enum RelocationRead {
-    Whole(Relocation),
-    Outside,
-}
-
 // The head of a note: its name's size, its descriptor's size, its type, and its name's first four bytes.
 pub struct Note {
     pub n_namesz: u64,
@@ -95,21 +85,9 @@ pub struct Note {
     pub name: u64,
 }
 
-pub enum NoteRead {
-    Whole(Note),
-    Outside,
-}
-
-// Whether `n` bytes from `at` on lie within `s`, by ordinary sums.
-fn inside(s: &[u8], at: u64, n: u64) -> bool
-    ensures { λ r. ⌜ r ≡ leb (at + n) (length (now (s .entry))) ⌝ }
-{
-    words::address::lies_within(at, n, s.len() as u64)
-}
-
 // The 64 bytes of the file header, which stands at the file's front.
 pub fn read_file_header(file: &[u8]) -> FileHeader
-    requires { ⌜ 64 ≤ length (now file) ⌝ }
+    requires { ⌜ fileHeaderSize ≤ length (now file) ⌝ }
     ensures { λ r. ⌜ r ≡ fileHeaderOf (now (file .entry)) ⌝ }
     ensures { λ r. ⌜ FileHeaderRanges r ⌝ }
 {
@@ -128,19 +106,9 @@ pub fn read_file_header(file: &[u8]) -> FileHeader
     }
 }
 
-// The file header, where the file has one.
-pub fn file_header(file: &[u8]) -> FileHeaderRead
-    ensures { λ r. ⌜ r ≡ fileHeader (now (file .entry)) ⌝ }
-{
-    if !inside(file, 0, 64) {
-        return FileHeaderRead::Outside;
-    }
-    FileHeaderRead::Whole(read_file_header(file))
-}
-
 // The 64 bytes of a section header.
 pub fn read_section_header(file: &[u8], at: usize) -> SectionHeader
-    requires { ⌜ at + 64 ≤ length (now file) ⌝ }
+    requires { ⌜ at + sectionHeaderSize ≤ length (now file) ⌝ }
     ensures { λ r. ⌜ r ≡ sectionHeaderOf (now (file .entry)) at ⌝ }
     ensures { λ r. ⌜ SectionHeaderRanges r ⌝ }
 {
@@ -157,19 +125,9 @@ pub fn read_section_header(file: &[u8], at: usize) -> SectionHeader
     }
 }
 
-// The section header at an offset of the file.
-pub fn section_header_at(file: &[u8], offset: u64) -> SectionHeaderRead
-    ensures { λ r. ⌜ r ≡ sectionHeader (now (file .entry)) offset ⌝ }
-{
-    if !inside(file, offset, 64) {
-        return SectionHeaderRead::Outside;
-    }
-    SectionHeaderRead::Whole(read_section_header(file, offset as usize))
-}
-
 // The 24 bytes of a symbol.
 pub fn read_symbol(table: &[u8], at: usize) -> Symbol
-    requires { ⌜ at + 24 ≤ length (now table) ⌝ }
+    requires { ⌜ at + symbolSize ≤ length (now table) ⌝ }
     ensures { λ r. ⌜ r ≡ symbolOf (now (table .entry)) at ⌝ }
     ensures { λ r. ⌜ SymbolRanges r ⌝ }
 {
@@ -181,19 +139,9 @@ pub fn read_symbol(table: &[u8], at: usize) -> Symbol
     }
 }
 
-// The symbol at an offset of the symbol table.
-pub fn symbol_at(table: &[u8], offset: u64) -> SymbolRead
-    ensures { λ r. ⌜ r ≡ symbol (now (table .entry)) offset ⌝ }
-{
-    if !inside(table, offset, 24) {
-        return SymbolRead::Outside;
-    }
-    SymbolRead::Whole(read_symbol(table, offset as usize))
-}
-
 // The 24 bytes of a relocation.
 pub fn read_relocation(entries: &[u8], at: usize) -> Relocation
-    requires { ⌜ at + 24 ≤ length (now entries) ⌝ }
+    requires { ⌜ at + relocationSize ≤ length (now entries) ⌝ }
     ensures { λ r. ⌜ r ≡ relocationOf (now (entries .entry)) at ⌝ }
     ensures { λ r. ⌜ RelocationRanges r ⌝ }
 {
@@ -205,19 +153,9 @@ pub fn read_relocation(entries: &[u8], at: usize) -> Relocation
     }
 }
 
-// The relocation at an offset of its section.
-pub fn relocation_at(entries: &[u8], offset: u64) -> RelocationRead
-    ensures { λ r. ⌜ r ≡ relocation (now (entries .entry)) offset ⌝ }
-{
-    if !inside(entries, offset, 24) {
-        return RelocationRead::Outside;
-    }
-    RelocationRead::Whole(read_relocation(entries, offset as usize))
-}
-
 // The 16 bytes of a note's head.
 pub fn read_note(contents: &[u8]) -> Note
-    requires { ⌜ 16 ≤ length (now contents) ⌝ }
+    requires { ⌜ noteHeadSize ≤ length (now contents) ⌝ }
     ensures { λ r. ⌜ r ≡ noteOf (now (contents .entry)) ⌝ }
     ensures { λ r. ⌜ NoteRanges r ⌝ }
 {
@@ -227,16 +165,6 @@ pub fn read_note(contents: &[u8]) -> Note
         n_type: words::le::read(contents, 8, 4),
         name: words::le::read(contents, 12, 4),
     }
-}
-
-// The head of the note that a section's contents begin with.
-pub fn note_head(contents: &[u8]) -> NoteRead
-    ensures { λ r. ⌜ r ≡ note (now (contents .entry)) ⌝ }
-{
-    if !inside(contents, 0, 16) {
-        return NoteRead::Outside;
-    }
-    NoteRead::Whole(read_note(contents))
 }
 
 // Where the name that begins at `offset` of a string table ends: at its first zero within the table.

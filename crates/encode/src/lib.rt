@@ -4,35 +4,46 @@ ghost use Prim.Native.Nat.{_+_, _<_, _≤_, _^_};
 ghost use lib.ListN.{length};
 ghost use Rattle.words.specs.Splice.{splice};
 ghost use Rattle.records.specs.Limits.{recordsMax, idMax};
-ghost use Rattle.machine.specs.Edits.{editBytes};
-ghost use Rattle.encode.specs.Encode.{entrySize, entryOf, editsOf, editsSize, summaryOf, summarySize, Fitting};
+ghost use Rattle.machine.specs.Host.{hostMachine};
+ghost use Rattle.machine.specs.Machine.{editBytes, editMax};
+ghost use Rattle.encode.specs.Encode.{entrySize, editEntry, editTable, editsSize, summaryOf, summarySize, Fitting};
+use machine::host::Host;
 use records::payload::BuildId;
 use records::payload::Edit;
 use records::payload::Payload;
 
-// One entry of the edits from `at` on: the edit's address, its length and its bytes. `text` is the text's address.
-fn write_entry(buffer: &mut [u8], at: usize, text: u64, edit: Edit)
-    requires { ⌜ (at + entrySize ≤ length (now buffer)) × (text + edit .offset < 2 ^ 64) × (length (editBytes edit) ≤ 36) ⌝ }
-    ensures { λ r. ⌜ now (buffer .exit) ≡ splice (now (buffer .entry)) at (entryOf text edit) ⌝ }
+// The bytes of an entry: the address of an edit in 8, its length in 4, and room for its bytes.
+pub const ENTRY_SIZE: usize = 48;
+// The bytes of the summary: four numbers of 4 bytes, and both ids.
+pub const SUMMARY_SIZE: usize = 16 + 2 * Payload::ID_MAX;
+
+// One entry of the edits from `at` on: the edit's address, its length and its bytes.
+fn write_entry(buffer: &mut [u8], at: usize, host: Host, edit: Edit)
+    requires { ⌜ at + entrySize ≤ length (now buffer) ⌝ }
+    requires { ⌜ (host .text + edit .offset < 2 ^ 64) × (length (editBytes (hostMachine host) edit) ≤ editMax) ⌝ }
+    ensures { λ r. ⌜ now (buffer .exit) ≡ splice (now (buffer .entry)) at
+        (editEntry (hostMachine host) (host .text) edit) ⌝ }
 {
-    words::bytes::fill(buffer, at, 48, 0);
-    words::le::write(buffer, at, 8, text + edit.offset as u64);
+    words::bytes::fill(buffer, at, ENTRY_SIZE, 0);
+    words::le::write(buffer, at, 8, host.text + edit.offset as u64);
     words::le::write(buffer, at + 8, 4, edit.length as u64);
-    machine::write_edit(buffer, at + 12, edit);
+    let processor = host.processor;
+    processor.write_edit(buffer, at + 12, edit);
 }
 
 // All 16 entries, zeros behind the last of `count`.
-pub fn write_edits(buffer: &mut [u8], text: u64, edits: [Edit; Payload::RECORDS_MAX], count: usize)
-    requires { ⌜ (length (now buffer) ≡ editsSize) × (count ≤ recordsMax) × Fitting text edits count ⌝ }
-    ensures { λ r. ⌜ now (buffer .exit) ≡ editsOf text edits count ⌝ }
+pub fn write_edits(buffer: &mut [u8], host: Host, edits: [Edit; Payload::RECORDS_MAX], count: usize)
+    requires { ⌜ (length (now buffer) ≡ editsSize) × (count ≤ recordsMax) × Fitting (hostMachine host) (host .text)
+        edits count ⌝ }
+    ensures { λ r. ⌜ now (buffer .exit) ≡ editTable (hostMachine host) (host .text) edits count ⌝ }
 {
     let mut r = 0;
     while r < Payload::RECORDS_MAX {
         if r < count {
             let edit = edits[r];
-            write_entry(buffer, 48 * r, text, edit);
+            write_entry(buffer, ENTRY_SIZE * r, host, edit);
         } else {
-            words::bytes::fill(buffer, 48 * r, 48, 0);
+            words::bytes::fill(buffer, ENTRY_SIZE * r, ENTRY_SIZE, 0);
         }
         r += 1;
     }
@@ -59,5 +70,5 @@ pub fn write_summary(buffer: &mut [u8], placed: u64, count: u64, id: BuildId, de
     let id_bytes = id.bytes;
     write_id(buffer, 16, &id_bytes);
     let dependency_bytes = dependency.bytes;
-    write_id(buffer, 48, &dependency_bytes);
+    write_id(buffer, 16 + Payload::ID_MAX, &dependency_bytes);
 }

@@ -1,104 +1,129 @@
--- Laws of function records: the machine's sizes, what the tests of a record say, and `edit-made`: every
--- edit lies in the text and has 1 to 31 bytes.
-use Prim.Native.Nat.{ℕ, _+_, _-_, _%_, _^_, _≤_}
-use mathlib.Core.Path.{_≡_, refl, ap}
-use mathlib.Core.Bool.{Bool, true, false, cond, _&&_, and-eq-true-iff}
-use mathlib.Core.List.{List}
+-- Every edit that a record becomes lies in the text and has as many bytes as it says; and the answer for all records holds their verdict.
+use Prim.Native.Nat.{ℕ, _+_, _-_, _≤_, _<_, _^_}
+use mathlib.Core.Path.{_≡_, refl}
+use mathlib.Core.Bool.{Bool, true, false, cond, _&&_}
 use native.Mathlib.Omega.{arith}
-use borrow.Author.Tests.{leb-true}
-use lib.Dec.{leb, eqb}
-use lib.ListN.{length}
+use lib.Dec.{eqb}
+use lib.ListN.{length, getD}
+use Rattle.words.proofs.Scan.{getD-filled}
+use Rattle.words.proofs.Tests.{both}
+use Rattle.records.specs.Limits.{recordsMax}
+use Rattle.records.specs.Payload.{noEdit}
+use Rattle.records.specs.Refusal.{reasonFor}
 use Rattle.records.specs.declared.payload.Edit.{Edit}
-use Rattle.records.specs.declared.refusal.Reason.{Reason}
-use Rattle.records.specs.declared.refusal.Reason.the-variants.{OutOfRange, Invalid}
 use Rattle.records.specs.declared.payload.EditKind.the-variants.{Jump, Fill}
-use Rattle.machine.specs.declared.Sizes.{Sizes}
-use Rattle.machine.specs.Edits.{jumpLength, fillMax, sizesOf, displacementOf, reaches}
+use Rattle.records.specs.declared.refusal.Reason.{Reason}
+use Rattle.records.specs.declared.refusal.Verdict.the-variants.{Pass}
+use Rattle.records.proofs.Checks.{then-pass, scan-passes, Told}
+use Rattle.machine.specs.Machine.{editBytes, editMax}
+use Rattle.machine.proofs.Laws.{lawful, length-edit}
+use Rattle.functions.specs.Edits.{formOk, inText, addressesOk, fillOk, jumpOk, fillEdit, jumpEdit, editFrom, editBy, editOf}
+use Rattle.functions.specs.Functions.{editAt, editVerdict, madeOf, editsOf, functionRules, refusedFunctions, acceptedFunctions}
+use Rattle.functions.specs.Patching.{Patching, machineFor}
+use Rattle.functions.specs.Records.{recordOf, oldAddressOf}
 use Rattle.functions.specs.declared.edits.RecordEdit.{RecordEdit}
 use Rattle.functions.specs.declared.edits.RecordEdit.the-variants.{Make, Fault}
 use Rattle.functions.specs.declared.function.FunctionRecord.{FunctionRecord}
 use Rattle.functions.specs.declared.function.OldAddress.{OldAddress}
 use Rattle.functions.specs.declared.function.OldAddress.the-variants.{At, Refused}
-use Rattle.functions.specs.Records.{recordOf, oldAddressOf}
-use Rattle.functions.specs.Edits.{liesIn, formOk, inText, fillOk, jumpOk, fillEdit, jumpEdit, editFrom, editBy, editOf}
-
--- the machine's sizes as numbers
-pub sizes-known : {s : Sizes} → s ≡ sizesOf → (s .jump ≡ jumpLength) × (s .«fill_max» ≡ fillMax)
-unfolding sizesOf
-sizes-known e = (ap (λ (s : Sizes). s .jump) e, ap (λ (s : Sizes). s .«fill_max») e)
-
--- ---- what the tests say
-
-pub lies : (base length address size : ℕ) → liesIn base length address size ≡ true → (base ≤ address) × (address - base + size ≤ length)
-lies base length address size h =
-    let t = and-eq-true-iff _ _ .0 h in
-    (leb-true _ _ (t .0), leb-true _ _ (t .1))
-
-three : (a b c : Bool) → (a && b && c) ≡ true → (a ≡ true) × (b ≡ true) × (c ≡ true)
-three a b c h =
-    let t = and-eq-true-iff (a && b) c .0 h in
-    let u = and-eq-true-iff a b .0 (t .0) in
-    (u .0, u .1, t .1)
-
-pub fill-holds :
-    (f : FunctionRecord) → fillOk f ≡ true →
-    (1 ≤ f .«new_size») × (f .«new_size» ≤ fillMax) × (f .«new_size» ≤ f .«old_size»)
-unfolding fillOk
-fill-holds f h =
-    let t = three (leb 1 (f .«new_size»)) (leb (f .«new_size») fillMax) (leb (f .«new_size») (f .«old_size»)) h in
-    (leb-true _ _ (t .0), leb-true _ _ (t .1), leb-true _ _ (t .2))
-
-pub jump-holds : (base placed : ℕ) (f : FunctionRecord) → jumpOk base placed f ≡ true → jumpLength ≤ f .«old_size»
-unfolding jumpOk
-jump-holds base placed f h =
-    leb-true _ _ (three (leb 1 (f .«new_size»)) (leb jumpLength (f .«old_size»)) _ h .1)
+use Rattle.functions.proofs.RecordLaws.{lies, fill-holds, jump-holds}
 
 -- ---- an edit that is made
+
+-- it lies in the text, and has as many bytes as it says: at least one, and no more than the longest edit
+pub record Made (p : Patching) (e : Edit) : Type 0 where
+  pub inside : e .offset + e .length ≤ p .host .«text_length»
+  pub some : 1 ≤ e .length
+  pub short : e .length ≤ editMax
+  pub sized : length (editBytes (machineFor p) e) ≡ e .length
 
 -- a test that had to hold
 passed : {e : Edit} (t : Bool) (x : RecordEdit) (reason : Reason) → cond t x (Fault reason) ≡ Make e → (t ≡ true) × (x ≡ Make e)
 passed true x reason h = (refl, h)
 passed false x reason h = let never : _≡_ {A = ℕ} 0 1 = cc in absurd (omega arith)
 
--- it lies in the text, and has 1 to 31 bytes
-abbrev Made : ℕ → Edit → Type 0
-Made size e = (e .offset + e .length ≤ size) × (1 ≤ e .length) × (e .length ≤ 31)
-
-module _ (text size base : ℕ) (placed list : List ℕ) (at : ℕ) {e : Edit} where
-  module _ (old : ℕ) (f : FunctionRecord) (h : inText text size old f ≡ true) where
-    fill-made : fillOk f ≡ true → fillEdit text old f ≡ Make e → Made size e
+module _ (p : Patching) (at : ℕ) {e : Edit} where
+  module _ (old : ℕ) (f : FunctionRecord) (h : inText p old f ≡ true) where
+    -- a fill, and a jump
+    fill-made : fillOk p f ≡ true → fillEdit p old f ≡ Make e → Made p e
     fill-made g made =
-        let same : record { offset = old - text; length = f .«new_size»; kind = Fill } ≡ e = cc in
-        rw (← same) (omega (arith, lies text size old (f .«old_size») h, fill-holds f g))
+        let fill : Edit = record { offset = old - p .host .text; length = f .«new_size»; kind = Fill } in
+        let same : fill ≡ e = cc in
+        let room = lies (p .host .text) (p .host .«text_length») old (f .«old_size») h in
+        let size = fill-holds p f g in
+        rw (← same) record {
+          inside = omega arith;
+          some = size .0;
+          short = size .1;
+          sized = length-edit (lawful (p .host .processor)) fill .1 refl;
+        }
 
-    jump-made : jumpOk base (length placed) f ≡ true → jumpEdit text old f ≡ Make e → Made size e
+    jump-made : jumpOk p f ≡ true → jumpEdit p old f ≡ Make e → Made p e
     unfolding jumpEdit
     jump-made g made =
-        let d = displacementOf old (f .«new_addr») in
-        let reached = passed (reaches d) _ OutOfRange made .1 in
-        let same : record { offset = old - text; length = jumpLength; kind = Jump (d % 2 ^ 32) } ≡ e = cc in
-        rw (← same) (omega (arith, lies text size old (f .«old_size») h, jump-holds base (length placed) f g))
+        let laws = lawful (p .host .processor) in
+        let d = machineFor p .displacement old (f .«new_addr») in
+        let jump : Edit = record { offset = old - p .host .text; length = machineFor p .jumpLength; kind = Jump d } in
+        let reached = passed (machineFor p .reaches d) (Make jump) (reasonFor 34) made .1 in
+        let same : jump ≡ e = cc in
+        let room = lies (p .host .text) (p .host .«text_length») old (f .«old_size») h in
+        let size = jump-holds p f g in
+        rw (← same) record {
+          inside = omega arith;
+          some = laws .jump-some;
+          short = laws .jump-max;
+          sized = length-edit laws jump .0 d refl;
+        }
 
+    -- either
     kind-made :
         (fill : Bool) →
         cond fill
-        (cond (fillOk f) (fillEdit text old f) (Fault Invalid))
-        (cond (jumpOk base (length placed) f) (jumpEdit text old f) (Fault Invalid))
+        (cond (fillOk p f) (fillEdit p old f) (Fault (reasonFor 22)))
+        (cond (jumpOk p f) (jumpEdit p old f) (Fault (reasonFor 22)))
         ≡ Make e →
-        Made size e
-    kind-made true made = let t = passed (fillOk f) _ Invalid made in fill-made (t .0) (t .1)
-    kind-made false made = let t = passed (jumpOk base (length placed) f) _ Invalid made in jump-made (t .0) (t .1)
+        Made p e
+    kind-made true made = let t = passed (fillOk p f) _ _ made in fill-made (t .0) (t .1)
+    kind-made false made = let t = passed (jumpOk p f) _ _ made in jump-made (t .0) (t .1)
 
-  address-made : (f : FunctionRecord) (o : OldAddress) → editBy text size base placed at f o ≡ Make e → Made size e
+  -- with the old address known, or none
+  address-made : (f : FunctionRecord) (o : OldAddress) → editBy p at f o ≡ Make e → Made p e
   unfolding editFrom
   address-made f (At old) made =
-      let t = passed (formOk placed at f && inText text size old f) _ Invalid made in
-      let inside = and-eq-true-iff (formOk placed at f) (inText text size old f) .0 (t .0) .1 in
+      let form = formOk (p .placed) at f in
+      let t = passed (form && inText p old f && addressesOk p old f) _ _ made in
+      let inside = both form (inText p old f) (both (form && inText p old f) (addressesOk p old f) (t .0) .0) .1 in
       kind-made old f inside (eqb (f .«new_addr») 0) (t .1)
   address-made f (Refused reason) made = let never : _≡_ {A = ℕ} 0 1 = cc in absurd (omega arith)
 
-  pub edit-made :
-      editOf text size base placed list at ≡ Make e →
-      (e .offset + e .length ≤ size) × (1 ≤ e .length) × (e .length ≤ 31)
+  -- of the record at at
+  pub edit-made : editOf p at ≡ Make e → Made p e
   unfolding editOf
-  edit-made made = address-made (recordOf placed at) (oldAddressOf base placed list (recordOf placed at)) made
+  edit-made made = address-made (recordOf (p .placed) at) (oldAddressOf p (recordOf (p .placed) at)) made
+
+module _ {p : Patching} {e : Edit} (made : Made p e) where
+  -- so its bytes are no more than the longest edit has
+  pub bytes-short : length (editBytes (machineFor p) e) ≤ editMax
+  bytes-short = rw (made .sized) (made .short)
+
+  -- and its address is a 64-bit number, where the text ends at 2^64 or before
+  pub edit-addressed : p .host .text + p .host .«text_length» ≤ 2 ^ 64 → p .host .text + e .offset < 2 ^ 64
+  edit-addressed ends = omega (arith, made .inside, made .some)
+
+-- ---- the edits of records that pass
+
+-- a record that passes has become an edit
+is-made : (e : RecordEdit) (r : ℕ) → editVerdict e r ≡ Pass → e ≡ Make (madeOf e)
+is-made (Make e) r h = refl
+is-made (Fault reason) r h = let never : _≡_ {A = ℕ} 0 1 = cc in absurd (omega arith)
+
+module _ (p : Patching) (start n : ℕ) where
+  pub edits-made : functionRules p start n ≡ Pass → (r : ℕ) → r < n → Made p (getD (editsOf p start n) r noEdit)
+  unfolding functionRules
+  edits-made h r g =
+      let each = scan-passes (λ j. editVerdict (editAt p start j) j) 0 n (then-pass _ _ h .0) r (omega arith) (omega arith) in
+      rw (getD-filled (λ j. madeOf (editAt p start j)) noEdit recordsMax n r noEdit g) (edit-made p _ (is-made (editAt p start r) r each))
+
+  -- the answer holds the verdict that decides it
+  pub functions-told : Told (λ f. f .verdict) refusedFunctions (acceptedFunctions p start n)
+  functions-told = record { refusing = λ r. refl; accepting = refl }

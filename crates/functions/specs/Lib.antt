@@ -1,4 +1,5 @@
 pub mod Edits
 pub mod Functions
 pub mod Pairs
+pub mod Patching
 pub mod Records

@@ -5,16 +5,16 @@ use mathlib.Core.List.{List}
 use lib.Dec.{ltb}
 use lib.ListN.{getD}
 use Rattle.words.specs.Scan.{scan}
-use Rattle.records.specs.Payload.{no-edit}
+use Rattle.records.specs.Payload.{noEdit}
 use Rattle.records.specs.Verdict.{refusal}
 use Rattle.records.specs.declared.payload.Edit.{Edit}
-use Rattle.records.specs.declared.refusal.Reason.the-variants.{Invalid}
+use Rattle.records.specs.Refusal.{reasonFor}
 use Rattle.records.specs.declared.refusal.Place.the-variants.{Record}
 use Rattle.records.specs.declared.refusal.Verdict.{Verdict}
 use Rattle.records.specs.declared.refusal.Verdict.the-variants.{Pass, Refuse}
 
 abbrev pub editIn : List Edit → ℕ → Edit
-editIn es i = getD es i no-edit
+editIn es i = getD es i noEdit
 
 -- two edits touch a common byte
 unfoldable pub touch : Edit → Edit → Bool
@@ -29,7 +29,7 @@ touched es b n = scan (one-touch es b) false 0 n
 
 -- record j touches an earlier one, or else what the later records give
 abbrev pub one-pair : List Edit → ℕ → Verdict → Verdict
-one-pair es j rest = cond (touched es (editIn es j) j) (Refuse (refusal Invalid (Record j))) rest
+one-pair es j rest = cond (touched es (editIn es j) j) (Refuse (refusal (reasonFor 22) (Record j))) rest
 
 unfoldable pub pairRules : List Edit → ℕ → Verdict
 pairRules es n = scan (one-pair es) Pass 0 n

@@ -5,11 +5,12 @@ use mathlib.Core.List.{List}
 use lib.Dec.{leb, ltb, eqb}
 use lib.ListN.{length}
 use Rattle.words.specs.Number.{leAt}
-use Rattle.records.specs.declared.refusal.Reason.the-variants.{NotListed, Invalid}
+use Rattle.records.specs.Refusal.{reasonFor}
 use Rattle.elf.specs.Name.{Name, named, unnamed, nameIn}
-use Rattle.symbols.specs.SymbolList.{lookup}
+use Rattle.symbols.specs.SymbolList.{listedNameMax, lookup}
 use Rattle.symbols.specs.declared.Found.{Found}
 use Rattle.symbols.specs.declared.Found.the-variants.{Address, Nothing}
+use Rattle.functions.specs.Patching.{Patching}
 use Rattle.functions.specs.declared.function.FunctionRecord.{FunctionRecord}
 use Rattle.functions.specs.declared.function.OldAddress.{OldAddress}
 use Rattle.functions.specs.declared.function.OldAddress.the-variants.{At, Refused}
@@ -26,23 +27,24 @@ recordOf placed at =
       version = leAt 1 placed (at + 32);
     }
 
--- an address lies in the placed bytes, of which the first stands at base
-abbrev pub pointsInto : ℕ → List ℕ → ℕ → Bool
-pointsInto base placed address = leb base address && ltb (address - base) (length placed)
+-- "name points into the placed bytes"
+abbrev pub pointsInto : Patching → ℕ → Bool
+pointsInto p address = leb (p .host .slot) address && ltb (address - p .host .slot) (length (p .placed))
 
-abbrev pub addressFound : Found → OldAddress
-addressFound (Address a) = At a
-addressFound Nothing = Refused NotListed
+-- "a used .. function name isn't in the list": 3
+abbrev pub functionFound : Found → OldAddress
+functionFound (Address a) = At a
+functionFound Nothing = Refused (reasonFor 3)
 
 -- "1 to 127 bytes ended by zero, and is looked up"
-abbrev pub listedBy : List ℕ → Name → OldAddress
-listedBy list (named name) =
-    cond (leb 1 (length name) && leb (length name) 127) (addressFound (lookup list name)) (Refused Invalid)
-listedBy list unnamed = Refused Invalid
+abbrev pub namedAddress : List ℕ → Name → OldAddress
+namedAddress list (named name) =
+    cond (leb 1 (length name) && leb (length name) listedNameMax) (functionFound (lookup list name)) (Refused (reasonFor 22))
+namedAddress list unnamed = Refused (reasonFor 22)
 
 -- "old_addr 0: name points into the placed bytes at ..; Otherwise name isn't consulted."
-unfoldable pub oldAddressOf : ℕ → List ℕ → List ℕ → FunctionRecord → OldAddress
-oldAddressOf base placed list f =
+unfoldable pub oldAddressOf : Patching → FunctionRecord → OldAddress
+oldAddressOf p f =
     cond (eqb (f .«old_addr») 0)
-    (cond (pointsInto base placed (f .name)) (listedBy list (nameIn placed (f .name - base))) (Refused Invalid))
+    (cond (pointsInto p (f .name)) (namedAddress (p .list) (nameIn (p .placed) (f .name - p .host .slot))) (Refused (reasonFor 22)))
     (At (f .«old_addr»))

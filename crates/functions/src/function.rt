@@ -2,8 +2,11 @@
 ghost use mathlib.Core.Path.{_≡_};
 ghost use Prim.Native.Nat.{_+_, _≤_};
 ghost use lib.ListN.{length};
-ghost use Rattle.functions.specs.Records.{recordOf, oldAddressOf, listedBy};
+ghost use Rattle.records.specs.Limits.{recordSize};
 ghost use Rattle.elf.specs.Name.{nameIn};
+ghost use Rattle.functions.specs.Patching.{patching};
+ghost use Rattle.functions.specs.Records.{recordOf, oldAddressOf, namedAddress};
+use machine::host::Host;
 use records::refusal::Reason;
 use words::bytes;
 
@@ -24,7 +27,7 @@ pub enum OldAddress {
 
 // The record at `at` of the placed bytes.
 pub(crate) fn read_record(placed: &[u8], at: usize) -> FunctionRecord
-    requires { ⌜ at + 64 ≤ length (now placed) ⌝ }
+    requires { ⌜ at + recordSize ≤ length (now placed) ⌝ }
     ensures { λ r. ⌜ r ≡ recordOf (now (placed .entry)) at ⌝ }
 {
     FunctionRecord {
@@ -38,8 +41,8 @@ pub(crate) fn read_record(placed: &[u8], at: usize) -> FunctionRecord
 }
 
 // The address of the name that begins at `start` of the placed bytes.
-fn listed_address(placed: &[u8], list: &[u8], start: u64) -> OldAddress
-    ensures { λ r. ⌜ r ≡ listedBy (now (list .entry)) (nameIn (now (placed .entry)) start) ⌝ }
+fn named_address(placed: &[u8], list: &[u8], start: u64) -> OldAddress
+    ensures { λ r. ⌜ r ≡ namedAddress (now (list .entry)) (nameIn (now (placed .entry)) start) ⌝ }
 {
     let first = start as usize;
     let bytes::Found::At(end) = elf::name_end(placed, start) else {
@@ -48,7 +51,7 @@ fn listed_address(placed: &[u8], list: &[u8], start: u64) -> OldAddress
     if end - first < 1 {
         return OldAddress::Refused(Reason::Invalid);
     }
-    if 127 < end - first {
+    if symbols::NAME_MAX < end - first {
         return OldAddress::Refused(Reason::Invalid);
     }
     match symbols::find(list, &placed[first..end]) {
@@ -57,19 +60,19 @@ fn listed_address(placed: &[u8], list: &[u8], start: u64) -> OldAddress
     }
 }
 
-// The old address of a record: given, or that of a listed name. `base` is the address of the first placed byte.
-pub(crate) fn old_address(base: u64, placed: &[u8], list: &[u8], f: FunctionRecord) -> OldAddress
-    ensures { λ r. ⌜ r ≡ oldAddressOf base (now (placed .entry)) (now (list .entry)) f ⌝ }
+// The old address of a record: given, or that of a listed name.
+pub(crate) fn old_address(host: Host, placed: &[u8], list: &[u8], f: FunctionRecord) -> OldAddress
+    ensures { λ r. ⌜ r ≡ oldAddressOf (patching host (now (placed .entry)) (now (list .entry))) f ⌝ }
 {
     if f.old_addr != 0 {
         return OldAddress::At(f.old_addr);
     }
     let name = f.name;
-    if name < base {
+    if name < host.slot {
         return OldAddress::Refused(Reason::Invalid);
     }
-    if placed.len() as u64 <= name - base {
+    if placed.len() as u64 <= name - host.slot {
         return OldAddress::Refused(Reason::Invalid);
     }
-    listed_address(placed, list, name - base)
+    named_address(placed, list, name - host.slot)
 }

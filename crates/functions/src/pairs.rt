@@ -7,7 +7,6 @@ use records::payload::Edit;
 use records::payload::Payload;
 use records::refusal::Place;
 use records::refusal::Reason;
-use records::refusal::Refusal;
 use records::refusal::Verdict;
 
 fn touching(a: Edit, b: Edit) -> bool
@@ -43,10 +42,7 @@ pub(crate) fn check_pairs(edits: [Edit; Payload::RECORDS_MAX], count: usize) -> 
         j += 1;
     }
     if j < count {
-        return Verdict::Refuse(Refusal {
-            reason: Reason::Invalid,
-            place: Place::Record(j as u16),
-        });
+        return Verdict::refused(Reason::Invalid, Place::Record(j as u16));
     }
     Verdict::Pass
 }

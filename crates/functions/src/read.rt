@@ -2,13 +2,15 @@
 ghost use mathlib.Core.Path.{_≡_};
 ghost use Prim.Native.Nat.{_+_, _*_, _≤_};
 ghost use lib.ListN.{length};
-ghost use Rattle.records.specs.Limits.{recordsMax, textMax};
-ghost use Rattle.functions.specs.Functions.{patching, functionsOf, refusedBy};
+ghost use Rattle.records.specs.Limits.{recordsMax, recordSize};
+ghost use Rattle.machine.specs.Host.{textMax};
+ghost use Rattle.functions.specs.Functions.{functionsOf, refusedFunctions};
+ghost use Rattle.functions.specs.Patching.{patching};
 use super::edits;
 use super::edits::RecordEdit;
 use super::pairs;
+use machine::host::Host;
 use records::payload::Edit;
-use records::payload::EditKind;
 use records::payload::Payload;
 use records::refusal::Place;
 use records::refusal::Refusal;
@@ -22,13 +24,9 @@ pub struct Functions {
 }
 
 fn refuse(r: Refusal) -> Functions
-    ensures { λ x. ⌜ x ≡ refusedBy r ⌝ }
+    ensures { λ x. ⌜ x ≡ refusedFunctions r ⌝ }
 {
-    let none = Edit {
-        offset: 0,
-        length: 0,
-        kind: EditKind::Fill,
-    };
+    let none = Edit::none();
     Functions {
         verdict: Verdict::Refuse(r),
         edits: [none; Payload::RECORDS_MAX],
@@ -38,31 +36,23 @@ fn refuse(r: Refusal) -> Functions
 
 // The `count` records from `start` of the placed bytes on, in order, then the pairs.
 pub fn read_functions(
-    text: u64,
-    size: u64,
-    base: u64,
+    host: Host,
     placed: &[u8],
-    start: usize,
     list: &[u8],
+    start: usize,
     count: usize,
 ) -> Functions
-    requires { ⌜ (start + 64 * count ≤ length (now placed)) × (count ≤ recordsMax) × (size ≤ textMax) ⌝ }
-    ensures { λ r. ⌜ r ≡ functionsOf (patching text size base (now (placed .entry)) start (now (list .entry))) count ⌝ }
+    requires { ⌜ (start + recordSize * count ≤ length (now placed)) × (count ≤ recordsMax) ×
+        (host .«text_length» ≤ textMax) ⌝ }
+    ensures { λ r. ⌜ r ≡ functionsOf (patching host (now (placed .entry)) (now (list .entry))) start count ⌝ }
 {
-    let none = Edit {
-        offset: 0,
-        length: 0,
-        kind: EditKind::Fill,
-    };
+    let none = Edit::none();
     let mut table = [none; Payload::RECORDS_MAX];
     let mut r = 0;
     while r < count {
-        match edits::edit_of(text, size, base, placed, list, start + 64 * r) {
+        match edits::edit_of(host, placed, list, start + Payload::RECORD_SIZE * r) {
             RecordEdit::Fault(reason) => {
-                return refuse(Refusal {
-                    reason,
-                    place: Place::Record(r as u16),
-                });
+                return refuse(Refusal::new(reason, Place::Record(r as u16)));
             }
             RecordEdit::Make(e) => {
                 table[r] = e;

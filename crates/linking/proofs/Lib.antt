@@ -1,1 +1,1 @@
-pub mod ResolvedLaws
+pub mod KeptLaws

@@ -1,3 +1,3 @@
+pub mod Kept
 pub mod Linking
-pub mod Resolved
 pub mod Symbols

@@ -1,3 +1,3 @@
-// A payload's symbols: the value of each, and all of them resolved once.
-pub mod resolved;
+// A payload's symbols: the value of each, looked up at its first use and kept.
+pub mod kept;
 pub mod values;

@@ -1,2 +1,2 @@
-pub mod Arms
 pub mod Laws
+pub mod Only

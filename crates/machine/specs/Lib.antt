@@ -1,2 +1,3 @@
-pub mod Edits
-pub mod Relocations
+pub mod Host
+pub mod Machine
+pub mod X86

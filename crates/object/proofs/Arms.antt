@@ -8,12 +8,24 @@ use denote.Enum.Declared.{tagOf}
 use lib.Dec.{T}
 use mir.Val.{hasKey}
 use types.Run.{OneOf, miss}
-use Rattle.object.specs.Kinds.{codeOf, isKind}
+use Rattle.object.specs.Kinds.{kindCode, isKind}
 use Rattle.object.specs.declared.kinds.Kind.{Kind}
-use Rattle.object.specs.declared.kinds.Kind.the-variants.{Null, Unnamed, Placed, Records, Depends, BuildId, Symbols, Strings, Relocations, Ignored, Unknown}
+use Rattle.object.specs.declared.kinds.Kind.the-variants.{
+  Null,
+  Unnamed,
+  Placed,
+  Records,
+  Depends,
+  BuildId,
+  Symbols,
+  Strings,
+  Relocations,
+  Ignored,
+  Unknown,
+}
 use Rattle.object.proofs.kinds.Kind.{the-type}
 
-pub tag-code : (k : Kind) → tagOf the-type k ≡ codeOf k
+pub tag-code : (k : Kind) → tagOf the-type k ≡ kindCode k
 tag-code Null = refl
 tag-code Unnamed = refl
 tag-code Placed = refl
@@ -27,9 +39,9 @@ tag-code Ignored = refl
 tag-code Unknown = refl
 
 module _ (k : Kind) where
-  pub this-kind : (w : Kind) → tagOf the-type k ≡ codeOf w → isKind k w ≡ true
-  this-kind w e = eq-eqb (codeOf k) (codeOf w) (sym (tag-code k) ∙ e)
+  pub this-kind : (w : Kind) → tagOf the-type k ≡ kindCode w → isKind k w ≡ true
+  this-kind w e = eq-eqb (kindCode k) (kindCode w) (sym (tag-code k) ∙ e)
 
-  pub other-kind : (numbers : List ℕ) → OneOf numbers (tagOf the-type k) → (w : Kind) → T (not (hasKey numbers (codeOf w))) → isKind k w ≡ false
+  pub other-kind : (numbers : List ℕ) → OneOf numbers (tagOf the-type k) → (w : Kind) → T (not (hasKey numbers (kindCode w))) → isKind k w ≡ false
   other-kind numbers named w not-named =
-      ne-eqb (codeOf k) (codeOf w) λ e. miss numbers (codeOf w) not-named (rw (tag-code k, e) at named)
+      ne-eqb (kindCode k) (kindCode w) λ e. miss numbers (kindCode w) not-named (rw (tag-code k, e) at named)

@@ -1,24 +1,39 @@
--- What a name table and sections that pass tell, and the table of sections by its index.
+-- A section as it is read, what a name table that passes tells, and the table of sections by its index.
 use Prim.Native.Nat.{ℕ, _+_, _*_, _≤_, _<_}
-use mathlib.Core.Path.{_≡_, ap}
-use mathlib.Core.Bool.{true, not, and-eq-true-iff}
+use mathlib.Core.Path.{_≡_, refl, sym, ap}
+use mathlib.Core.Bool.{Bool, true, false, not, _&&_}
 use mathlib.Core.List.{List}
 use native.Mathlib.Omega.{arith}
-use borrow.Author.Tests.{ltb-true, ne-eqb}
+use borrow.Author.Tests.{ltb-true, eqb-true}
+use lib.Dec.{ltb, eqb}
 use lib.ListN.{length}
 use Rattle.words.proofs.Scan.{getD-filled}
-use Rattle.records.specs.Verdict.{must}
-use Rattle.records.specs.declared.refusal.Reason.the-variants.{Invalid}
-use Rattle.records.specs.declared.refusal.Place.the-variants.{Nowhere, Section}
+use Rattle.words.proofs.Tests.{both}
+use Rattle.records.specs.Limits.{sectionsMax}
+use Rattle.records.specs.declared.refusal.Place.the-variants.{Nowhere}
 use Rattle.records.specs.declared.refusal.Verdict.the-variants.{Pass}
-use Rattle.elf.specs.Layout.{fileHeaderOf}
+use Rattle.records.proofs.Checks.{must-pass}
+use Rattle.elf.specs.Layout.{sectionHeaderSize, fileHeaderOf}
+use Rattle.elf.specs.Name.{isNamed}
 use Rattle.elf.specs.declared.FileHeader.{FileHeader}
+use Rattle.elf.specs.declared.SectionHeader.{SectionHeader}
 use Rattle.object.specs.Header.{Headed}
-use Rattle.object.specs.Kinds.{hasType, isKind}
-use Rattle.object.specs.Sections.{sectionCount, contentsInside, nameTableRules, nameSection, entryOf, noEntry, sections, sectionIn, knownType, knownFlags, alignmentOk, contentsOk, sectionRules, sectionsRules}
-use Rattle.object.specs.declared.kinds.Kind.the-variants.{Unnamed, Unknown}
-use Rattle.object.specs.declared.sections.SectionEntry.{SectionEntry}
-use Rattle.records.proofs.Checks.{must-pass, then-pass, scan-passes}
+use Rattle.object.specs.Kinds.{hasType, kindOf, isKind}
+use Rattle.object.specs.Sections.{
+  sectionCount,
+  headerAt,
+  contentsOf,
+  nameTableRules,
+  nameSection,
+  noEntry,
+  consultedFields,
+  sectionName,
+  sectionRead,
+  sections,
+  sectionIn,
+}
+use Rattle.object.specs.declared.kinds.Kind.the-variants.{Null, Unnamed}
+use Rattle.object.proofs.KindLaws.{kind-unnamed, kind-null}
 
 -- ---- the section table
 
@@ -30,58 +45,73 @@ module _ (file : List ℕ) {h : FileHeader} (e : h ≡ fileHeaderOf file) where
   pub names-read : h .«e_shstrndx» ≡ nameSection file
   names-read = ap (λ (k : FileHeader). k .«e_shstrndx») e
 
-  pub header-inside : (i : ℕ) → Headed file → i < sectionCount file → h .«e_shoff» + 64 * i + 64 ≤ length file
+  pub header-inside : (i : ℕ) → Headed file → i < sectionCount file → h .«e_shoff» + sectionHeaderSize * i + sectionHeaderSize ≤ length file
   header-inside i headed g = rw e (omega arith)
 
-pub names-inside : (file : List ℕ) → nameTableRules file ≡ Pass → nameSection file < sectionCount file
-unfolding nameTableRules
-names-inside file e =
-    let all = and-eq-true-iff _ _ .0 (must-pass _ Invalid Nowhere e) in
-    ltb-true _ _ (and-eq-true-iff _ _ .0 (all .0) .0)
+-- ---- a section as it is read
+
+module _ (file : List ℕ) (i : ℕ) where
+  -- of a section of type 0 nothing is kept
+  pub read-null : hasType 0 (headerAt file i) ≡ true → sectionRead file i ≡ noEntry
+  unfolding sectionRead
+  read-null null = rw null
+
+  -- of another its consulted fields, and its kind by its name
+  module _ (some : hasType 0 (headerAt file i) ≡ false) where
+    pub read-header : sectionRead file i .header ≡ consultedFields (headerAt file i)
+    unfolding sectionRead
+    read-header = rw some
+
+    pub read-kind : sectionRead file i .kind ≡ kindOf (headerAt file i) (sectionName file i)
+    unfolding sectionRead
+    read-kind = rw some
+
+    -- it has no name exactly where its kind says so
+    pub unnamed-told : isKind (sectionRead file i .kind) Unnamed ≡ not (isNamed (sectionName file i))
+    unnamed-told = rw read-kind (kind-unnamed (headerAt file i) (sectionName file i))
+
+  -- its type is the header's
+  pub read-type : sectionRead file i .header .«sh_type» ≡ headerAt file i .«sh_type»
+  unfolding noEntry consultedFields
+  read-type = by-test (hasType 0 (headerAt file i)) refl
+    where
+      by-test : (t : Bool) → hasType 0 (headerAt file i) ≡ t → sectionRead file i .header .«sh_type» ≡ headerAt file i .«sh_type»
+      by-test true e = rw (read-null e) (sym (eqb-true (headerAt file i .«sh_type») 0 e))
+      by-test false e = rw (read-header e)
+
+  pub read-typed : (t : ℕ) → hasType t (sectionRead file i .header) ≡ hasType t (headerAt file i)
+  read-typed t = ap (λ (n : ℕ). eqb n t) read-type
+
+  -- its kind says whether it is 0
+  pub null-told : isKind (sectionRead file i .kind) Null ≡ hasType 0 (headerAt file i)
+  unfolding noEntry
+  null-told = by-test (hasType 0 (headerAt file i)) refl
+    where
+      by-test : (t : Bool) → hasType 0 (headerAt file i) ≡ t → isKind (sectionRead file i .kind) Null ≡ t
+      by-test true e = rw (read-null e)
+      by-test false e = rw (read-kind e) (kind-null (headerAt file i) (sectionName file i))
+
+-- the contents of a section that has some are those that its whole header names
+pub consulted-contents : (file : List ℕ) (h : SectionHeader) → hasType 8 h ≡ false → contentsOf file (consultedFields h) ≡ contentsOf file h
+unfolding contentsOf consultedFields
+consulted-contents file h full = rw full
+
+-- ---- the name table
+
+-- what one that passes tells
+module _ (file : List ℕ) (e : nameTableRules file ≡ Pass) where
+  in-table-typed : (ltb (nameSection file) (sectionCount file) && hasType 3 (headerAt file (nameSection file))) ≡ true
+  unfolding nameTableRules
+  in-table-typed = both _ _ (must-pass _ 22 Nowhere e) .0
+
+  pub names-inside : nameSection file < sectionCount file
+  names-inside = ltb-true _ _ (both _ _ in-table-typed .0)
+
+  pub names-typed : hasType 3 (headerAt file (nameSection file)) ≡ true
+  names-typed = both (ltb (nameSection file) (sectionCount file)) _ in-table-typed .1
 
 -- ---- the sections by index
 
-pub section-in : (file : List ℕ) (i : ℕ) → i < sectionCount file → sectionIn (sections file) i ≡ entryOf file i
+pub section-in : (file : List ℕ) (i : ℕ) → i < sectionCount file → sectionIn (sections file) i ≡ sectionRead file i
 unfolding sections
-section-in file i h = getD-filled (entryOf file) noEntry 64 (sectionCount file) i noEntry h
-
--- ---- a section that passes
-
-pub section-passes :
-    (size : ℕ) (ss : List SectionEntry) (n : ℕ) → sectionsRules size ss n ≡ Pass →
-    (i : ℕ) → i < n → sectionRules size i (sectionIn ss i) ≡ Pass
-unfolding sectionsRules
-section-passes size ss n e i h =
-    let all = then-pass (must (hasType 0 (sectionIn ss 0 .header)) Invalid (Section 0)) _ e .1 in
-    scan-passes (λ j. sectionRules size j (sectionIn ss j)) 0 n all i (omega arith) (omega arith)
-
--- what it tells, unless its type is 0
-pub record Passed (size : ℕ) (s : SectionEntry) : Type 0 where
-  pub has-name : not (isKind (s .kind) Unnamed) ≡ true
-  pub known-type : knownType (s .header) ≡ true
-  pub known-flags : knownFlags (s .header) ≡ true
-  pub known-kind : not (isKind (s .kind) Unknown) ≡ true
-  pub aligned : alignmentOk (s .header) ≡ true
-  pub contents : contentsOk (s .header) size ≡ true
-
-module _ (size i : ℕ) (s : SectionEntry) (e : sectionRules size i s ≡ Pass) (some : s .header .«sh_type» ≡ 0 → ⊥) where
-  pub passed : Passed size s
-  unfolding sectionRules
-  passed =
-      let e1 = then-pass _ _ (rw (ne-eqb (s .header .«sh_type») 0 some) at e) in
-      let e2 = then-pass _ _ (e1 .1) in
-      let e3 = then-pass _ _ (e2 .1) in
-      let e4 = then-pass _ _ (e3 .1) in
-      let e5 = then-pass _ _ (e4 .1) in
-      record {
-        has-name = must-pass _ _ _ (e1 .0);
-        known-type = must-pass _ _ _ (e2 .0);
-        known-flags = must-pass _ _ _ (e3 .0);
-        known-kind = must-pass _ _ _ (e4 .0);
-        aligned = must-pass _ _ _ (e5 .0);
-        contents = must-pass _ _ _ (e5 .1);
-      }
-
-  -- nor 8
-  pub contents-inside : (s .header .«sh_type» ≡ 8 → ⊥) → contentsInside (s .header) size ≡ true
-  contents-inside full = rw (ne-eqb (s .header .«sh_type») 8 full) at (passed .contents)
+section-in file i h = getD-filled (sectionRead file) noEntry sectionsMax (sectionCount file) i noEntry h

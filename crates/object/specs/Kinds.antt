@@ -80,27 +80,28 @@ kindNamed h name =
     (cond (isAllocated h) (allocatedKind h name)
     (plainKind h name))))
 
-abbrev pub kindBy : SectionHeader → Name → Kind
-kindBy h (named name) = kindNamed h name
-kindBy h unnamed = Unnamed
-
--- "of a type 0 section only the type is consulted"
-unfoldable pub kindOf : SectionHeader → Name → Kind
-kindOf h name = cond (hasType 0 h) Null (kindBy h name)
+-- the kind of a section of any type but 0
+abbrev pub kindOf : SectionHeader → Name → Kind
+kindOf h (named name) = kindNamed h name
+kindOf h unnamed = Unnamed
 
 -- a number for each kind, by which kinds are compared
-abbrev pub codeOf : Kind → ℕ
-codeOf Null = 0
-codeOf Unnamed = 1
-codeOf Placed = 2
-codeOf Records = 3
-codeOf Depends = 4
-codeOf BuildId = 5
-codeOf Symbols = 6
-codeOf Strings = 7
-codeOf Relocations = 8
-codeOf Ignored = 9
-codeOf Unknown = 10
+abbrev pub kindCode : Kind → ℕ
+kindCode Null = 0
+kindCode Unnamed = 1
+kindCode Placed = 2
+kindCode Records = 3
+kindCode Depends = 4
+kindCode BuildId = 5
+kindCode Symbols = 6
+kindCode Strings = 7
+kindCode Relocations = 8
+kindCode Ignored = 9
+kindCode Unknown = 10
 
 abbrev pub isKind : Kind → Kind → Bool
-isKind a b = eqb (codeOf a) (codeOf b)
+isKind a b = eqb (kindCode a) (kindCode b)
+
+-- "Each of the two note sections"
+abbrev pub isNoteKind : Kind → Bool
+isNoteKind kind = isKind kind Depends || isKind kind BuildId

@@ -9,12 +9,11 @@ use Rattle.words.specs.Scan.{scan, filled}
 use Rattle.words.specs.Splice.{part}
 use Rattle.records.specs.Limits.{sectionsMax}
 use Rattle.records.specs.Verdict.{must, _then_}
-use Rattle.records.specs.declared.refusal.Reason.the-variants.{Invalid, Unsupported}
 use Rattle.records.specs.declared.refusal.Place.the-variants.{Nowhere, Section}
 use Rattle.records.specs.declared.refusal.Verdict.{Verdict}
 use Rattle.records.specs.declared.refusal.Verdict.the-variants.{Pass}
-use Rattle.elf.specs.Layout.{fileHeaderOf, sectionHeaderOf}
-use Rattle.elf.specs.Name.{nameIn}
+use Rattle.elf.specs.Layout.{sectionHeaderSize, fileHeaderOf, sectionHeaderOf}
+use Rattle.elf.specs.Name.{Name, nameIn}
 use Rattle.elf.specs.declared.SectionHeader.{SectionHeader}
 use Rattle.object.specs.Kinds.{hasType, kindOf, isKind}
 use Rattle.object.specs.declared.kinds.Kind.the-variants.{Null, Unnamed, Unknown}
@@ -26,7 +25,7 @@ sectionCount file = fileHeaderOf file .«e_shnum»
 
 -- the header of section i
 unfoldable pub headerAt : List ℕ → ℕ → SectionHeader
-headerAt file i = sectionHeaderOf file (fileHeaderOf file .«e_shoff» + 64 * i)
+headerAt file i = sectionHeaderOf file (fileHeaderOf file .«e_shoff» + sectionHeaderSize * i)
 
 -- "Contents lie inside the file (offset plus size at most the file's)"
 abbrev pub contentsInside : SectionHeader → ℕ → Bool
@@ -46,18 +45,12 @@ nameTableOk file =
     && contentsInside (headerAt file (nameSection file)) (length file)
 
 unfoldable pub nameTableRules : List ℕ → Verdict
-nameTableRules file = must (nameTableOk file) Invalid Nowhere
+nameTableRules file = must (nameTableOk file) 22 Nowhere
 
 unfoldable pub nameTable : List ℕ → List ℕ
 nameTable file = contentsOf file (headerAt file (nameSection file))
 
--- a section as it is read: its header, and what kind it is
-abbrev pub entryOf : List ℕ → ℕ → SectionEntry
-entryOf file i = record {
-  header = headerAt file i;
-  kind = kindOf (headerAt file i) (nameIn (nameTable file) (headerAt file i .«sh_name»));
-}
-
+-- the table's entry of no section, and of a section of type 0
 unfoldable pub noEntry : SectionEntry
 noEntry = record {
   header = record {
@@ -74,9 +67,34 @@ noEntry = record {
   kind = Null;
 }
 
+-- the fields that a rule looks at, of a header of any type but 0: sh_link and sh_entsize of types 2 and 4, sh_info of type 4,
+-- sh_offset of any type but 8; sh_addr is none of them
+unfoldable pub consultedFields : SectionHeader → SectionHeader
+consultedFields h = record {
+  «sh_name» = h .«sh_name»;
+  «sh_type» = h .«sh_type»;
+  «sh_flags» = h .«sh_flags»;
+  «sh_offset» = cond (hasType 8 h) 0 (h .«sh_offset»);
+  «sh_size» = h .«sh_size»;
+  «sh_link» = cond (hasType 2 h || hasType 4 h) (h .«sh_link») 0;
+  «sh_info» = cond (hasType 4 h) (h .«sh_info») 0;
+  «sh_addralign» = h .«sh_addralign»;
+  «sh_entsize» = cond (hasType 2 h || hasType 4 h) (h .«sh_entsize») 0;
+}
+
+-- the name of section i
+abbrev pub sectionName : List ℕ → ℕ → Name
+sectionName file i = nameIn (nameTable file) (headerAt file i .«sh_name»)
+
+-- a section as it is read, its header and what kind it is: "of a type 0 section only the type is consulted"
+unfoldable pub sectionRead : List ℕ → ℕ → SectionEntry
+sectionRead file i =
+    cond (hasType 0 (headerAt file i)) noEntry
+    (record { header = consultedFields (headerAt file i); kind = kindOf (headerAt file i) (sectionName file i) })
+
 -- the sections of the file in a table of 64
 unfoldable pub sections : List ℕ → List SectionEntry
-sections file = filled (entryOf file) noEntry sectionsMax (sectionCount file)
+sections file = filled (sectionRead file) noEntry sectionsMax (sectionCount file)
 
 abbrev pub sectionIn : List SectionEntry → ℕ → SectionEntry
 sectionIn ss i = getD ss i noEntry
@@ -104,12 +122,12 @@ contentsOk h size = hasType 8 h || contentsInside h size
 unfoldable pub sectionRules : ℕ → ℕ → SectionEntry → Verdict
 sectionRules size i s =
     cond (hasType 0 (s .header)) Pass
-    (must (not (isKind (s .kind) Unnamed)) Invalid (Section i)
-    then must (knownType (s .header)) Unsupported (Section i)
-    then must (knownFlags (s .header)) Unsupported (Section i)
-    then must (not (isKind (s .kind) Unknown)) Unsupported (Section i)
-    then must (alignmentOk (s .header)) Invalid (Section i)
-    then must (contentsOk (s .header) size) Invalid (Section i))
+    (must (not (isKind (s .kind) Unnamed)) 22 (Section i)
+    then must (knownType (s .header)) 95 (Section i)
+    then must (knownFlags (s .header)) 95 (Section i)
+    then must (not (isKind (s .kind) Unknown)) 95 (Section i)
+    then must (alignmentOk (s .header)) 22 (Section i)
+    then must (contentsOk (s .header) size) 22 (Section i))
 
 abbrev pub one-section : ℕ → List SectionEntry → ℕ → Verdict → Verdict
 one-section size ss i rest = sectionRules size i (sectionIn ss i) then rest
@@ -117,5 +135,5 @@ one-section size ss i rest = sectionRules size i (sectionIn ss i) then rest
 -- "section 0 is type 0 (else 22, also where its type is unknown)", then each section
 unfoldable pub sectionsRules : ℕ → List SectionEntry → ℕ → Verdict
 sectionsRules size ss n =
-    must (hasType 0 (sectionIn ss 0 .header)) Invalid (Section 0)
+    must (hasType 0 (sectionIn ss 0 .header)) 22 (Section 0)
     then scan (one-section size ss) Pass 0 n

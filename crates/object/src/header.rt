@@ -1,7 +1,9 @@
 // The file's size and header.
 ghost use mathlib.Core.Path.{_≡_};
+ghost use Rattle.machine.specs.Host.{machineOf};
 ghost use Rattle.object.specs.Header.{fieldsOk, headerRules};
 use elf::FileHeader;
+use machine::processor::Processor;
 use records::payload::Payload;
 use records::refusal::Place;
 use records::refusal::Reason;
@@ -9,8 +11,8 @@ use records::refusal::Refusal;
 use records::refusal::Verdict;
 
 // Whether the header's fields are those of a payload.
-fn fields_ok(h: FileHeader) -> bool
-    ensures { λ r. ⌜ r ≡ fieldsOk h ⌝ }
+fn fields_ok(processor: Processor, h: FileHeader) -> bool
+    ensures { λ r. ⌜ r ≡ fieldsOk (machineOf processor) h ⌝ }
 {
     if h.magic != 0x464c457f {
         return false;
@@ -27,13 +29,13 @@ fn fields_ok(h: FileHeader) -> bool
     if h.e_type != 1 {
         return false;
     }
-    if h.e_machine != machine::E_MACHINE {
+    if h.e_machine != processor.number() {
         return false;
     }
     if h.e_version != 1 {
         return false;
     }
-    if h.e_shentsize != 64 {
+    if h.e_shentsize != elf::SECTION_HEADER_SIZE as u64 {
         return false;
     }
     if h.e_shnum < 1 {
@@ -46,8 +48,8 @@ fn fields_ok(h: FileHeader) -> bool
 }
 
 // A file of a wrong size or with a wrong header is refused with 8, nowhere.
-pub fn check_header(file: &[u8]) -> Verdict
-    ensures { λ r. ⌜ r ≡ headerRules (now (file .entry)) ⌝ }
+pub fn check_header(processor: Processor, file: &[u8]) -> Verdict
+    ensures { λ r. ⌜ r ≡ headerRules (machineOf processor) (now (file .entry)) ⌝ }
 {
     let bad = Verdict::Refuse(Refusal {
         reason: Reason::BadHeader,
@@ -60,10 +62,11 @@ pub fn check_header(file: &[u8]) -> Verdict
         return bad;
     }
     let h = elf::read_file_header(file);
-    if !fields_ok(h) {
+    if !fields_ok(processor, h) {
         return bad;
     }
-    if !words::address::lies_within(h.e_shoff, 64 * h.e_shnum, file.len() as u64) {
+    let table = elf::SECTION_HEADER_SIZE as u64 * h.e_shnum;
+    if !words::address::lies_within(h.e_shoff, table, file.len() as u64) {
         return bad;
     }
     Verdict::Pass

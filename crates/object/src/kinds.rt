@@ -12,7 +12,8 @@ ghost use Rattle.object.specs.Kinds.{
   plainKind,
   kindNamed,
   kindOf,
-  codeOf,
+  kindCode,
+  isNoteKind,
 };
 use elf::SectionHeader;
 use words::bytes;
@@ -42,7 +43,7 @@ pub enum Kind {
 impl Kind {
     // A number for each kind, by which kinds are compared.
     pub fn code(self) -> u64
-        ensures { λ r. ⌜ r ≡ codeOf self ⌝ }
+        ensures { λ r. ⌜ r ≡ kindCode self ⌝ }
     {
         match self {
             Kind::Null => 0,
@@ -56,6 +57,24 @@ impl Kind {
             Kind::Relocations => 8,
             Kind::Ignored => 9,
             Kind::Unknown => 10,
+        }
+    }
+
+    // Whether it is one of the two notes.
+    pub fn is_note(self) -> bool
+        ensures { λ r. ⌜ r ≡ isNoteKind self ⌝ }
+    {
+        match self {
+            Kind::Depends | Kind::BuildId => true,
+            Kind::Null
+            | Kind::Unnamed
+            | Kind::Placed
+            | Kind::Records
+            | Kind::Symbols
+            | Kind::Strings
+            | Kind::Relocations
+            | Kind::Ignored
+            | Kind::Unknown => false,
         }
     }
 }
@@ -198,13 +217,10 @@ fn kind_named(h: SectionHeader, name: &[u8]) -> Kind
     plain_kind(h, name)
 }
 
-// The kind of a section whose name stands in this table.
+// The kind of a section, of any type but 0, whose name stands in this table.
 pub fn kind_in(h: SectionHeader, table: &[u8]) -> Kind
     ensures { λ r. ⌜ r ≡ kindOf h (nameIn (now (table .entry)) (h .«sh_name»)) ⌝ }
 {
-    if h.sh_type == 0 {
-        return Kind::Null;
-    }
     let start = h.sh_name as usize;
     let bytes::Found::At(end) = elf::name_end(table, h.sh_name) else {
         return Kind::Unnamed;

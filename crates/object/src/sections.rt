@@ -1,10 +1,7 @@
 // The section table, and the checks of each section.
 ghost use mathlib.Core.Path.{_≡_};
-ghost use mathlib.Core.Bool.{false};
 ghost use Prim.Native.Nat.{_≤_, _<_};
 ghost use Rattle.records.specs.Limits.{sectionsMax};
-ghost use Rattle.records.specs.Verdict.{must};
-ghost use Rattle.records.specs.declared.refusal.Place.the-variants.{Section};
 ghost use Rattle.records.specs.declared.refusal.Verdict.the-variants.{Pass};
 ghost use Rattle.object.specs.Header.{Headed};
 ghost use Rattle.object.specs.Sections.{
@@ -14,7 +11,8 @@ ghost use Rattle.object.specs.Sections.{
   nameTableRules,
   nameTable,
   noEntry,
-  entryOf,
+  consultedFields,
+  sectionRead,
   sections,
   knownType,
   knownFlags,
@@ -67,7 +65,7 @@ fn header_at(file: &[u8], i: u64) -> SectionHeader
     ensures { λ r. ⌜ r ≡ headerAt (now (file .entry)) i ⌝ }
 {
     let h = elf::read_file_header(file);
-    let at = h.e_shoff + 64 * i;
+    let at = h.e_shoff + elf::SECTION_HEADER_SIZE as u64 * i;
     elf::read_section_header(file, at as usize)
 }
 
@@ -119,14 +117,40 @@ fn name_table<'a>(file: &'a [u8]) -> &'a [u8]
     contents_of(file, header_at(file, h.e_shstrndx))
 }
 
+// The fields that a rule looks at; the others are 0.
+fn consulted_fields(h: SectionHeader) -> SectionHeader
+    ensures { λ r. ⌜ r ≡ consultedFields h ⌝ }
+{
+    let t = h.sh_type;
+    if t == 4 {
+        return h;
+    }
+    let mut rest = h;
+    rest.sh_info = 0;
+    if t == 2 {
+        return rest;
+    }
+    rest.sh_link = 0;
+    rest.sh_entsize = 0;
+    if t == 8 {
+        rest.sh_offset = 0;
+    }
+    rest
+}
+
 // Section i: its header, and its kind by its name in the name table.
 fn entry_at(file: &[u8], names: &[u8], i: u64) -> SectionEntry
     requires { ⌜ Headed (now file) × (i < sectionCount (now file)) × (now names ≡ nameTable (now file)) ⌝ }
-    ensures { λ r. ⌜ r ≡ entryOf (now (file .entry)) i ⌝ }
+    ensures { λ r. ⌜ r ≡ sectionRead (now (file .entry)) i ⌝ }
 {
-    let header = header_at(file, i);
-    let kind = kinds::kind_in(header, names);
-    SectionEntry { header, kind }
+    let h = header_at(file, i);
+    if h.sh_type == 0 {
+        return SectionEntry::none();
+    }
+    SectionEntry {
+        header: consulted_fields(h),
+        kind: kinds::kind_in(h, names),
+    }
 }
 
 // All sections of the file, in a table of 64.
@@ -186,16 +210,6 @@ fn contents_ok(h: SectionHeader, size: u64) -> bool
     words::address::lies_within(h.sh_offset, h.sh_size, size)
 }
 
-// A refusal at section i.
-pub fn refuse_at(reason: Reason, i: u16) -> Verdict
-    ensures { λ r. ⌜ r ≡ must false reason (Section i) ⌝ }
-{
-    Verdict::Refuse(Refusal {
-        reason,
-        place: Place::Section(i),
-    })
-}
-
 // One section of a file of `size` bytes: name, type, flags, kind, alignment, contents.
 fn check_section(size: u64, i: u16, s: SectionEntry) -> Verdict
     ensures { λ r. ⌜ r ≡ sectionRules size i s ⌝ }
@@ -207,22 +221,22 @@ fn check_section(size: u64, i: u16, s: SectionEntry) -> Verdict
         return Verdict::Pass;
     }
     if code == Kind::Unnamed.code() {
-        return refuse_at(Reason::Invalid, i);
+        return Verdict::refused(Reason::Invalid, Place::Section(i));
     }
     if !known_type(h) {
-        return refuse_at(Reason::Unsupported, i);
+        return Verdict::refused(Reason::Unsupported, Place::Section(i));
     }
     if !known_flags(h) {
-        return refuse_at(Reason::Unsupported, i);
+        return Verdict::refused(Reason::Unsupported, Place::Section(i));
     }
     if code == Kind::Unknown.code() {
-        return refuse_at(Reason::Unsupported, i);
+        return Verdict::refused(Reason::Unsupported, Place::Section(i));
     }
     if !alignment_ok(h) {
-        return refuse_at(Reason::Invalid, i);
+        return Verdict::refused(Reason::Invalid, Place::Section(i));
     }
     if !contents_ok(h, size) {
-        return refuse_at(Reason::Invalid, i);
+        return Verdict::refused(Reason::Invalid, Place::Section(i));
     }
     Verdict::Pass
 }
@@ -239,7 +253,7 @@ pub fn check_sections(
     let first = table[0];
     let h = first.header;
     if h.sh_type != 0 {
-        return refuse_at(Reason::Invalid, 0);
+        return Verdict::refused(Reason::Invalid, Place::Section(0));
     }
     let mut i = 0;
     while i < count {

@@ -1,63 +1,58 @@
 -- Sections counted and found by their kind's number, and what the counts say where they pass.
-use Prim.Native.Nat.{ℕ, zero, suc, _+_, _-_, _≤_, _<_}
+use Prim.Native.Nat.{ℕ, zero, suc, _+_, _-_, _*_, _%_, _≤_, _<_}
 use mathlib.Core.Path.{_≡_, refl, ap, _∙_}
-use mathlib.Core.Bool.{Bool, true, cond}
+use mathlib.Core.Bool.{Bool, true, cond, _&&_}
 use mathlib.Core.List.{List}
 use mathlib.Core.Logic.{⊎-elim}
 use native.Mathlib.Omega.{arith}
-use borrow.Author.Tests.{eq-eqb, ne-eqb, eqb-true}
+use borrow.Author.Tests.{eq-eqb, ne-eqb, eqb-true, ltb-true, leb-true}
 use lib.Dec.{eqb}
 use Rattle.words.specs.Scan.{scan}
-use Rattle.words.proofs.Scan.{begin, turn, end, Miss, searched}
+use Rattle.words.proofs.Scan.{turn, Miss, searched}
+use Rattle.words.proofs.Tests.{both}
+use Rattle.records.specs.Limits.{recordsMax, recordSize}
 use Rattle.records.specs.declared.refusal.Verdict.the-variants.{Pass}
-use Rattle.payload.specs.Counts.{one-counted, countOf, indexOf, symbolTableOk, recordsSizeOk, countRules}
-use Rattle.object.specs.Kinds.{codeOf, isKind}
+use Rattle.records.proofs.Checks.{must-pass, then-pass}
+use Rattle.elf.specs.Layout.{symbolSize}
+use Rattle.elf.specs.declared.SectionHeader.{SectionHeader}
+use Rattle.object.specs.Kinds.{hasType, kindCode, isKind}
 use Rattle.object.specs.Sections.{sectionIn}
 use Rattle.object.specs.declared.kinds.Kind.{Kind}
 use Rattle.object.specs.declared.kinds.Kind.the-variants.{Records, Depends, BuildId, Symbols}
 use Rattle.object.specs.declared.sections.SectionEntry.{SectionEntry}
-use Rattle.records.proofs.Checks.{must-pass, then-pass}
+use Rattle.payload.specs.Counts.{one-counted, countOf, indexOf, symbolTableOk, recordsSizeOk, countRules}
 
 -- ---- the loops, which know a kind by its number
 
-module _ (ss : List SectionEntry) (number : ℕ) where
-  abbrev pub numbered : ℕ → Bool
-  numbered i = eqb (codeOf (sectionIn ss i .kind)) number
+-- through the sections from i on: `hit` takes one whose kind has this number, and what comes of those after it
+module _ (hit : ℕ → ℕ → ℕ) (ss : List SectionEntry) (number : ℕ) where
+  abbrev pub hits-from : ℕ → ℕ → ℕ
+  hits-from i k = scan (λ j rest. cond (eqb (kindCode (sectionIn ss j .kind)) number) (hit j rest) rest) 0 i k
 
-  abbrev pub count-from : ℕ → ℕ → ℕ
-  count-from i k = scan (λ j rest. cond (numbered j) (suc rest) rest) 0 i k
-
-  abbrev pub index-from : ℕ → ℕ → ℕ
-  index-from i k = scan (λ j rest. cond (numbered j) j rest) 0 i k
-
-  pub count-begin : (n : ℕ) → count-from 0 n ≡ 0 + count-from 0 (n - 0)
-  count-begin n = begin _ _ n ∙ omega arith
-
-  pub count-end : (i n : ℕ) → n ≤ i → count-from i (n - i) ≡ 0
-  count-end = end _ _
-
+  -- a turn at a section of that kind, and at another
   module _ (i n : ℕ) (more : i < n) where
-    pub count-hit : codeOf (sectionIn ss i .kind) ≡ number → count-from i (n - i) ≡ suc (count-from (i + 1) (n - (i + 1)))
-    count-hit e = turn _ _ i n more ∙ rw (eq-eqb _ number e)
+    pub turn-hits : kindCode (sectionIn ss i .kind) ≡ number → hits-from i (n - i) ≡ hit i (hits-from (i + 1) (n - (i + 1)))
+    turn-hits e = turn _ _ i n more ∙ rw (eq-eqb _ number e)
 
-    pub count-miss : (codeOf (sectionIn ss i .kind) ≡ number → ⊥) → count-from i (n - i) ≡ count-from (i + 1) (n - (i + 1))
-    count-miss e = turn _ _ i n more ∙ rw (ne-eqb _ number e)
+    pub turn-misses : (kindCode (sectionIn ss i .kind) ≡ number → ⊥) → hits-from i (n - i) ≡ hits-from (i + 1) (n - (i + 1))
+    turn-misses e = turn _ _ i n more ∙ rw (ne-eqb _ number e)
 
-    pub index-hit : codeOf (sectionIn ss i .kind) ≡ number → index-from i (n - i) ≡ i
-    index-hit e = turn _ _ i n more ∙ rw (eq-eqb _ number e)
+-- what a count and a search make of a hit
+abbrev pub one-more : ℕ → ℕ → ℕ
+one-more j rest = suc rest
 
-    pub index-miss : (codeOf (sectionIn ss i .kind) ≡ number → ⊥) → index-from i (n - i) ≡ index-from (i + 1) (n - (i + 1))
-    index-miss e = turn _ _ i n more ∙ rw (ne-eqb _ number e)
+abbrev pub found-here : ℕ → ℕ → ℕ
+found-here j rest = j
 
 -- the number is a kind's
-module _ (ss : List SectionEntry) (n : ℕ) (kind : Kind) {number : ℕ} (known : number ≡ codeOf kind) where
-  pub counted : count-from ss number 0 n ≡ countOf ss n kind
+module _ (ss : List SectionEntry) (n : ℕ) (kind : Kind) {number : ℕ} (known : number ≡ kindCode kind) where
+  pub counted : hits-from one-more ss number 0 n ≡ countOf ss n kind
   unfolding countOf
-  counted = ap (λ (x : ℕ). count-from ss x 0 n) known
+  counted = ap (λ (x : ℕ). hits-from one-more ss x 0 n) known
 
-  pub indexed : index-from ss number 0 n ≡ indexOf ss n kind
+  pub indexed : hits-from found-here ss number 0 n ≡ indexOf ss n kind
   unfolding indexOf
-  indexed = ap (λ (x : ℕ). index-from ss x 0 n) known
+  indexed = ap (λ (x : ℕ). hits-from found-here ss x 0 n) known
 
 -- ---- where a kind is counted, it is found
 
@@ -65,15 +60,16 @@ module _ (ss : List SectionEntry) (n : ℕ) (kind : Kind) where
   abbrev hasKind : ℕ → Bool
   hasKind i = isKind (sectionIn ss i .kind) kind
 
+  -- a kind that no section has is counted 0 times
   none-counted : (i k : ℕ) → Miss hasKind i k → scan (one-counted ss kind) 0 i k ≡ 0
   unfolding scan
   none-counted i zero miss = refl
   none-counted i (suc k) miss =
       rw (miss i (omega arith) (omega arith)) (none-counted (suc i) k λ j h g. miss j (omega arith) (omega arith))
 
-  pub index-found : 1 ≤ countOf ss n kind → (indexOf ss n kind < n) × (isKind (sectionIn ss (indexOf ss n kind) .kind) kind ≡ true)
+  pub index-found : countOf ss n kind ≡ 1 → (indexOf ss n kind < n) × (isKind (sectionIn ss (indexOf ss n kind) .kind) kind ≡ true)
   unfolding countOf indexOf
-  index-found counted =
+  index-found one =
       ⊎-elim
       (λ w. rw (w .2) (omega arith, w .1 .holds))
       (λ w. absurd (omega (arith, none-counted 0 n (w .0))))
@@ -105,3 +101,21 @@ counts-pass ss n h =
       build-id = eqb-true _ _ (must-pass _ _ _ (build-id .0));
       records-size = must-pass _ _ _ (build-id .1);
     }
+
+-- the symbol table's link is a section of the file, of type 3
+pub symbols-linked :
+    (ss : List SectionEntry) (n : ℕ) (h : SectionHeader) → symbolTableOk ss n h ≡ true →
+    (h .«sh_link» < n) × (hasType 3 (sectionIn ss (h .«sh_link») .header) ≡ true)
+unfolding symbolTableOk
+symbols-linked ss n h ok =
+    let typed = both _ (hasType 3 (sectionIn ss (h .«sh_link») .header)) ok in
+    let inside = both (eqb (h .«sh_entsize») symbolSize && eqb (h .«sh_size» % symbolSize) 0) _ (typed .0) in
+    (ltb-true _ _ (inside .1), typed .1)
+
+-- the function records are 1 to 16
+pub records-sized :
+    (h : SectionHeader) → recordsSizeOk h ≡ true → (recordSize ≤ h .«sh_size») × (h .«sh_size» ≤ recordSize * recordsMax)
+unfolding recordsSizeOk
+records-sized h ok =
+    let ends = both _ _ (both _ (eqb (h .«sh_size» % recordSize) 0) ok .0) in
+    (leb-true _ _ (ends .0), leb-true _ _ (ends .1))

@@ -1,3 +1,4 @@
 pub mod CountLaws
 pub mod NoteLaws
 pub mod ReadingLaws
+pub mod RelocationHeaderLaws

@@ -14,16 +14,16 @@ use Rattle.words.proofs.Tests.{both}
 use Rattle.records.specs.Limits.{idMin, idMax}
 use Rattle.records.specs.Verdict.{must}
 use Rattle.records.specs.declared.payload.BuildId.{BuildId}
-use Rattle.records.specs.declared.refusal.Reason.the-variants.{Invalid}
 use Rattle.records.specs.declared.refusal.Place.the-variants.{Section}
 use Rattle.records.specs.declared.refusal.Verdict.{Verdict}
 use Rattle.records.specs.declared.refusal.Verdict.the-variants.{Pass}
-use Rattle.elf.specs.Layout.{noteOf}
+use Rattle.records.proofs.Checks.{must-pass, scan-passes}
+use Rattle.elf.specs.Layout.{noteHeadSize, noteOf}
 use Rattle.elf.specs.declared.Note.{Note}
-use Rattle.payload.specs.Notes.{idLength, padded, noteHeadOk, noteOk, idIn, isNoteKind, noteRules}
+use Rattle.object.specs.Kinds.{isNoteKind}
 use Rattle.object.specs.Sections.{sectionIn, contentsOf}
 use Rattle.object.specs.declared.sections.SectionEntry.{SectionEntry}
-use Rattle.records.proofs.Checks.{must-pass, scan-passes}
+use Rattle.payload.specs.Notes.{idLength, padded, noteHeadOk, noteOk, idIn, noteRules}
 
 -- the rest of a list, to its end
 pub all-of-rest : {A : Type 0} (s : List A) (at : ℕ) → take (length s - at) (drop at s) ≡ drop at s
@@ -34,14 +34,14 @@ all-of-rest s at = rw (← length-drop at s, take-length)
 module _ (note : List ℕ) where
   abbrev pub okBy : Note → Bool
   okBy head =
-      leb 16 (length note)
+      leb noteHeadSize (length note)
       && noteHeadOk head
-      && eqb (length note) (16 + padded (head .«n_descsz»))
-      && allZero (drop (16 + head .«n_descsz») note)
+      && eqb (length note) (noteHeadSize + padded (head .«n_descsz»))
+      && allZero (drop (noteHeadSize + head .«n_descsz») note)
 
   abbrev pub idBy : Note → BuildId
   idBy head =
-      record { bytes = splice (replicate idMax 0) 0 (part note 16 (head .«n_descsz»)); length = head .«n_descsz» }
+      record { bytes = splice (replicate idMax 0) 0 (part note noteHeadSize (head .«n_descsz»)); length = head .«n_descsz» }
 
   module _ {head : Note} (known : head ≡ noteOf note) where
     pub ok-by : noteOk note ≡ okBy head
@@ -54,7 +54,7 @@ module _ (note : List ℕ) where
 
 -- ---- a note's length
 
--- the id's length
+-- "d (1 to 32)"
 head-length : (head : Note) → noteHeadOk head ≡ true → (idMin ≤ head .«n_descsz») × (head .«n_descsz» ≤ idMax)
 unfolding noteHeadOk
 head-length head h =
@@ -64,24 +64,29 @@ head-length head h =
     let low = both (eqb (head .«n_namesz») 4) _ (high .0) in
     (leb-true _ _ (low .1), leb-true _ _ (high .1))
 
-pub note-ok-length : (note : List ℕ) → noteOk note ≡ true → (16 + idLength note ≤ length note) × (idMin ≤ idLength note) × (idLength note ≤ idMax)
+-- a note that is right is as long as its id says, and the id has its length
+pub note-ok-length :
+    (note : List ℕ) → noteOk note ≡ true →
+    (length note ≡ noteHeadSize + padded (idLength note)) × (idMin ≤ idLength note) × (idLength note ≤ idMax)
 unfolding noteOk
 note-ok-length note h =
-    let ended = both _ (allZero (drop (16 + idLength note) note)) h in
-    let sized = both _ (eqb (length note) (16 + padded (idLength note))) (ended .0) in
-    let headed = both (leb 16 (length note)) _ (sized .0) in
-    let size : length note ≡ 16 + padded (idLength note) = eqb-true _ _ (sized .1) in
+    let ended = both _ (allZero (drop (noteHeadSize + idLength note) note)) h in
+    let sized = both _ (eqb (length note) (noteHeadSize + padded (idLength note))) (ended .0) in
+    let headed = both (leb noteHeadSize (length note)) _ (sized .0) in
     let id = head-length (noteOf note) (headed .1) in
-    (omega arith, id .0, id .1)
+    (eqb-true _ _ (sized .1), id .0, id .1)
 
 -- ---- notes that pass
 
-abbrev oneNote : List ℕ → List SectionEntry → ℕ → Verdict
-oneNote file ss i = cond (isNoteKind (sectionIn ss i .kind)) (must (noteOk (contentsOf file (sectionIn ss i .header))) Invalid (Section i)) Pass
+module _ (file : List ℕ) (ss : List SectionEntry) (n : ℕ) where
+  abbrev right-note : ℕ → Bool
+  right-note i = noteOk (contentsOf file (sectionIn ss i .header))
 
-pub note-passes :
-    (file : List ℕ) (ss : List SectionEntry) (n i : ℕ) → noteRules file ss n ≡ Pass → i < n → isNoteKind (sectionIn ss i .kind) ≡ true →
-    noteOk (contentsOf file (sectionIn ss i .header)) ≡ true
-unfolding noteRules
-note-passes file ss n i h l k =
-    must-pass _ Invalid (Section i) (rw k at (scan-passes (oneNote file ss) 0 n h i (omega arith) (omega arith)))
+  abbrev one-verdict : ℕ → Verdict
+  one-verdict i = cond (isNoteKind (sectionIn ss i .kind)) (must (right-note i) 22 (Section i)) Pass
+
+  pub note-passes : noteRules file ss n ≡ Pass → (i : ℕ) → i < n → isNoteKind (sectionIn ss i .kind) ≡ true → right-note i ≡ true
+  unfolding noteRules
+  note-passes passes i below kind =
+      let here = scan-passes one-verdict 0 n passes i (omega arith) (omega arith) in
+      must-pass _ 22 (Section i) (rw kind at here)

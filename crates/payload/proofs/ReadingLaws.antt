@@ -1,27 +1,31 @@
--- What a file whose rules all pass tells: each stage passes, and each note has its id.
-use Prim.Native.Nat.{ℕ}
+-- What a file whose rules all pass tells: each stage passes, each note has its id, and the sections that later stages look up are there.
+use Prim.Native.Nat.{ℕ, _*_, _≤_, _<_}
 use mathlib.Core.Path.{_≡_, refl, ap, _∙_}
-use mathlib.Core.Bool.{true, _||_, false≢true}
+use mathlib.Core.Bool.{Bool, true, false, _||_}
 use mathlib.Core.List.{List}
-use native.Mathlib.Omega.{arith}
 use borrow.Author.Tests.{eqb-true}
 use lib.Dec.{eqb}
 use lib.ListN.{length}
-use Rattle.records.specs.declared.refusal.Verdict.{Verdict}
-use Rattle.records.specs.declared.refusal.Verdict.the-variants.{Pass, Refuse}
-use Rattle.records.proofs.Checks.{then-pass}
-use Rattle.payload.specs.Counts.{countOf, indexOf, countRules}
-use Rattle.object.specs.Header.{headerRules}
-use Rattle.object.specs.Kinds.{codeOf, isKind}
-use Rattle.payload.specs.Notes.{noteOk, isNoteKind, noteRules}
-use Rattle.payload.specs.Reading.{tableRules, readRules, readingBy, readingOf}
-use Rattle.payload.specs.RelocationHeaders.{relocationHeaderRules}
+use Rattle.records.specs.Limits.{recordsMax, recordSize}
+use Rattle.records.specs.declared.refusal.Verdict.the-variants.{Pass}
+use Rattle.records.proofs.Checks.{Told, then-pass}
+use Rattle.elf.specs.declared.SectionHeader.{SectionHeader}
+use Rattle.machine.specs.Machine.{Machine}
+use Rattle.object.specs.Header.{Headed, headerRules}
+use Rattle.object.specs.Kinds.{kindCode, isKind, isNoteKind}
 use Rattle.object.specs.Sections.{sectionCount, sections, sectionIn, contentsOf, nameTableRules, sectionsRules}
 use Rattle.object.specs.declared.kinds.Kind.{Kind}
-use Rattle.object.specs.declared.kinds.Kind.the-variants.{Null, Unnamed, Placed, Records, Depends, BuildId, Symbols, Strings, Relocations, Ignored, Unknown}
+use Rattle.object.specs.declared.kinds.Kind.the-variants.{Records, Depends, BuildId, Symbols, Relocations}
 use Rattle.object.specs.declared.sections.SectionEntry.{SectionEntry}
-use Rattle.payload.proofs.CountLaws.{CountsPass, counts-pass, index-found}
+use Rattle.object.proofs.HeaderLaws.{headed}
+use Rattle.payload.specs.Counts.{countOf, indexOf, countRules}
+use Rattle.payload.specs.Notes.{noteOk, noteRules}
+use Rattle.payload.specs.Reading.{tableRules, readRules, refusedReading, acceptedReading}
+use Rattle.payload.specs.RelocationHeaders.{isTarget, relocationHeaderRules}
+use Rattle.payload.specs.declared.read.Reading.{Reading}
+use Rattle.payload.proofs.CountLaws.{CountsPass, counted, counts-pass, index-found, symbols-linked, records-sized}
 use Rattle.payload.proofs.NoteLaws.{note-passes}
+use Rattle.payload.proofs.RelocationHeaderLaws.{target-passes}
 
 -- ---- every stage passes
 
@@ -42,44 +46,85 @@ module _ (file : List ℕ) (ss : List SectionEntry) (n : ℕ) where
 
 -- ---- the note of a kind
 
+either-holds : {A : Type 0} (a b : Bool) → (a ≡ true → A) → (b ≡ true → A) → (a || b) ≡ true → A
+either-holds true b first second h = first refl
+either-holds false b first second h = second h
+
+-- both notes are counted once
 note-counted : (ss : List SectionEntry) (n : ℕ) → CountsPass ss n → (kind : Kind) → isNoteKind kind ≡ true → countOf ss n kind ≡ 1
-note-counted ss n p Null h = absurd (false≢true h)
-note-counted ss n p Unnamed h = absurd (false≢true h)
-note-counted ss n p Placed h = absurd (false≢true h)
-note-counted ss n p Records h = absurd (false≢true h)
-note-counted ss n p Depends h = p .depends
-note-counted ss n p BuildId h = p .build-id
-note-counted ss n p Symbols h = absurd (false≢true h)
-note-counted ss n p Strings h = absurd (false≢true h)
-note-counted ss n p Relocations h = absurd (false≢true h)
-note-counted ss n p Ignored h = absurd (false≢true h)
-note-counted ss n p Unknown h = absurd (false≢true h)
+unfolding countOf
+note-counted ss n counts kind =
+    either-holds (isKind kind Depends) (isKind kind BuildId)
+    (λ same. counted ss n Depends (eqb-true (kindCode kind) _ same) ∙ counts .depends)
+    (λ same. counted ss n BuildId (eqb-true (kindCode kind) _ same) ∙ counts .build-id)
 
+-- a section of a note's kind is a note
 same-note : (a b : Kind) → isKind a b ≡ true → isNoteKind b ≡ true → isNoteKind a ≡ true
-same-note a b h g = ap (λ (k : ℕ). eqb k 4 || eqb k 5) (eqb-true (codeOf a) (codeOf b) h) ∙ g
+same-note a b same note = ap (λ (k : ℕ). eqb k (kindCode Depends) || eqb k (kindCode BuildId)) (eqb-true (kindCode a) (kindCode b) same) ∙ note
 
+-- so the section of that kind is right
 pub note-found :
     (file : List ℕ) (ss : List SectionEntry) (n : ℕ) (kind : Kind) → tableRules file ss n ≡ Pass → isNoteKind kind ≡ true →
     noteOk (contentsOf file (sectionIn ss (indexOf ss n kind) .header)) ≡ true
-note-found file ss n kind h g =
-    let t = table-passes file ss n h in
-    let one : countOf ss n kind ≡ 1 = note-counted ss n (counts-pass ss n (t .of-counts)) kind g in
-    let found = index-found ss n kind (omega arith) in
-    note-passes file ss n (indexOf ss n kind) (t .of-notes) (found .0) (same-note (sectionIn ss (indexOf ss n kind) .kind) kind (found .1) g)
+note-found file ss n kind passes note =
+    let table = table-passes file ss n passes in
+    let found = index-found ss n kind (note-counted ss n (counts-pass ss n (table .of-counts)) kind note) in
+    note-passes file ss n (table .of-notes) _ (found .0) (same-note (sectionIn ss (indexOf ss n kind) .kind) kind (found .1) note)
 
--- ---- the answer, by the table that was read
+-- ---- a file that passes
 
-pub reads-table :
-    (file : List ℕ) (ss : List SectionEntry) (n : ℕ) → headerRules file ≡ Pass → nameTableRules file ≡ Pass →
-    ss ≡ sections file → n ≡ sectionCount file → readingOf file ≡ readingBy file ss n (tableRules file ss n)
-unfolding readingOf readRules
-reads-table file ss n head names table count = rw (head, names, table, count)
+module _ (file : List ℕ) where
+  abbrev ss : List SectionEntry
+  ss = sections file
 
--- the answer's verdict is that of the rules
-pub verdict-read : (file : List ℕ) → readingOf file .verdict ≡ readRules file
-unfolding readingOf
-verdict-read file = by-verdict (readRules file)
-  where
-    by-verdict : (v : Verdict) → readingBy file (sections file) (sectionCount file) v .verdict ≡ v
-    by-verdict Pass = refl
-    by-verdict (Refuse r) = refl
+  abbrev n : ℕ
+  n = sectionCount file
+
+  abbrev symbols-header : SectionHeader
+  symbols-header = sectionIn ss (indexOf ss n Symbols) .header
+
+  abbrev records-header : SectionHeader
+  records-header = sectionIn ss (indexOf ss n Records) .header
+
+  -- every stage passes; the symbol table, its strings, the function records and the targets of relocations are sections of the file
+  pub record ReadPasses : Type 0 where
+    pub head : Headed file
+    pub names : nameTableRules file ≡ Pass
+    pub table : TablePasses file ss n
+    pub counts : CountsPass ss n
+    pub symbols-below : indexOf ss n Symbols < n
+    pub strings-below : symbols-header .«sh_link» < n
+    pub records-below : indexOf ss n Records < n
+    pub records-least : recordSize ≤ records-header .«sh_size»
+    pub records-most : records-header .«sh_size» ≤ recordSize * recordsMax
+    pub targets :
+        (i : ℕ) → i < n → isKind (sectionIn ss i .kind) Relocations ≡ true →
+        (sectionIn ss i .header .«sh_info» < n) × (isTarget (sectionIn ss (sectionIn ss i .header .«sh_info»)) ≡ true)
+
+  pub read-passes : (m : Machine) → readRules m file ≡ Pass → ReadPasses
+  unfolding readRules
+  read-passes m h =
+      let one = then-pass (headerRules m file) _ h in
+      let two = then-pass (nameTableRules file) _ (one .1) in
+      let table = table-passes file ss n (two .1) in
+      let counts = counts-pass ss n (table .of-counts) in
+      let size = records-sized records-header (counts .records-size) in
+      record {
+        head = headed m file (one .0);
+        names = two .0;
+        table = table;
+        counts = counts;
+        symbols-below = index-found ss n Symbols (counts .symbols) .0;
+        strings-below = symbols-linked ss n symbols-header (counts .symbol-table) .0;
+        records-below = index-found ss n Records (counts .records) .0;
+        records-least = size .0;
+        records-most = size .1;
+        targets = target-passes ss n _ (table .of-relocations);
+      }
+
+-- ---- the answer
+
+-- a reading holds the verdict that it is given for
+pub reading-told :
+    (file : List ℕ) (ss : List SectionEntry) (n : ℕ) → Told (λ (r : Reading). r .verdict) refusedReading (acceptedReading file ss n)
+reading-told file ss n = record { refusing = λ r. refl; accepting = refl }

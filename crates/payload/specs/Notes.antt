@@ -1,6 +1,6 @@
 -- Document 01: "Each of the two note sections is one note: sizes 4 and d (1 to 32), type 3, GNU and a zero, d bytes, zeros to a multiple of 4, nothing more."
 use Prim.Native.Nat.{ℕ, _+_, _*_, _/_}
-use mathlib.Core.Bool.{Bool, cond, _&&_, _||_}
+use mathlib.Core.Bool.{Bool, cond, _&&_}
 use mathlib.Core.List.{List}
 use lib.Dec.{leb, eqb}
 use lib.ListN.{length, drop, replicate}
@@ -10,16 +10,13 @@ use Rattle.words.specs.Splice.{part, splice}
 use Rattle.records.specs.Limits.{idMin, idMax}
 use Rattle.records.specs.Verdict.{must, _then_}
 use Rattle.records.specs.declared.payload.BuildId.{BuildId}
-use Rattle.records.specs.declared.refusal.Reason.the-variants.{Invalid}
 use Rattle.records.specs.declared.refusal.Place.the-variants.{Section}
 use Rattle.records.specs.declared.refusal.Verdict.{Verdict}
 use Rattle.records.specs.declared.refusal.Verdict.the-variants.{Pass}
-use Rattle.elf.specs.Layout.{noteOf}
+use Rattle.elf.specs.Layout.{noteHeadSize, noteOf}
 use Rattle.elf.specs.declared.Note.{Note}
-use Rattle.object.specs.Kinds.{isKind}
+use Rattle.object.specs.Kinds.{isNoteKind}
 use Rattle.object.specs.Sections.{sectionIn, contentsOf}
-use Rattle.object.specs.declared.kinds.Kind.{Kind}
-use Rattle.object.specs.declared.kinds.Kind.the-variants.{Depends}
 use Rattle.object.specs.declared.sections.SectionEntry.{SectionEntry}
 
 -- the length d of the id that a note holds
@@ -42,21 +39,18 @@ noteHeadOk head =
 -- "d bytes, zeros to a multiple of 4, nothing more"
 unfoldable pub noteOk : List ℕ → Bool
 noteOk note =
-    leb 16 (length note)
+    leb noteHeadSize (length note)
     && noteHeadOk (noteOf note)
-    && eqb (length note) (16 + padded (idLength note))
-    && allZero (drop (16 + idLength note) note)
+    && eqb (length note) (noteHeadSize + padded (idLength note))
+    && allZero (drop (noteHeadSize + idLength note) note)
 
 -- the id: its bytes, and zeros after them
 unfoldable pub idIn : List ℕ → BuildId
-idIn note = record { bytes = splice (replicate idMax 0) 0 (part note 16 (idLength note)); length = idLength note }
-
-abbrev pub isNoteKind : Kind → Bool
-isNoteKind kind = isKind kind Depends || isKind kind Kind.BuildId
+idIn note = record { bytes = splice (replicate idMax 0) 0 (part note noteHeadSize (idLength note)); length = idLength note }
 
 abbrev pub one-note : List ℕ → List SectionEntry → ℕ → Verdict → Verdict
 one-note file ss i rest =
-    cond (isNoteKind (sectionIn ss i .kind)) (must (noteOk (contentsOf file (sectionIn ss i .header))) Invalid (Section i)) Pass
+    cond (isNoteKind (sectionIn ss i .kind)) (must (noteOk (contentsOf file (sectionIn ss i .header))) 22 (Section i)) Pass
     then rest
 
 -- "notes by index"

@@ -3,13 +3,14 @@ use Prim.Native.Nat.{ℕ}
 use mathlib.Core.List.{List}
 use lib.ListN.{length, replicate}
 use Rattle.records.specs.Limits.{sectionsMax}
-use Rattle.records.specs.Payload.{no-id}
-use Rattle.records.specs.Verdict.{_then_}
+use Rattle.records.specs.Payload.{noId}
+use Rattle.records.specs.Verdict.{_then_, decide}
 use Rattle.records.specs.declared.payload.BuildId.{BuildId}
 use Rattle.records.specs.declared.refusal.Refusal.{Refusal}
 use Rattle.records.specs.declared.refusal.Verdict.{Verdict}
 use Rattle.records.specs.declared.refusal.Verdict.the-variants.{Pass, Refuse}
 use Rattle.payload.specs.Counts.{indexOf, countRules}
+use Rattle.machine.specs.Machine.{Machine}
 use Rattle.object.specs.Header.{headerRules}
 use Rattle.payload.specs.Notes.{idIn, noteRules}
 use Rattle.payload.specs.RelocationHeaders.{relocationHeaderRules}
@@ -28,41 +29,41 @@ tableRules file ss n =
     then noteRules file ss n
 
 -- "8, e_shstrndx (place 0)", then the sections
-unfoldable pub readRules : List ℕ → Verdict
-readRules file = headerRules file then nameTableRules file then tableRules file (sections file) (sectionCount file)
+unfoldable pub readRules : Machine → List ℕ → Verdict
+readRules m file = headerRules m file then nameTableRules file then tableRules file (sections file) (sectionCount file)
 
 -- the id in the note of a kind
 abbrev pub idOf : List ℕ → List SectionEntry → ℕ → Kind → BuildId
 idOf file ss n kind = idIn (contentsOf file (sectionIn ss (indexOf ss n kind) .header))
 
-abbrev pub refused : Refusal → Reading
-refused r =
+abbrev pub refusedReading : Refusal → Reading
+refusedReading r =
     record {
       verdict = Refuse r;
       count = 0;
       sections = replicate sectionsMax noEntry;
       symbols = 0;
       records = 0;
-      id = no-id;
-      dependency = no-id;
+      «id_section» = 0;
+      «depends_section» = 0;
+      id = noId;
+      dependency = noId;
     }
 
-abbrev pub accepted : List ℕ → List SectionEntry → ℕ → Reading
-accepted file ss n =
+abbrev pub acceptedReading : List ℕ → List SectionEntry → ℕ → Reading
+acceptedReading file ss n =
     record {
       verdict = Pass;
       count = n;
       sections = ss;
       symbols = indexOf ss n Symbols;
       records = indexOf ss n Records;
+      «id_section» = indexOf ss n Kind.BuildId;
+      «depends_section» = indexOf ss n Depends;
       id = idOf file ss n Kind.BuildId;
       dependency = idOf file ss n Depends;
     }
 
-abbrev pub readingBy : List ℕ → List SectionEntry → ℕ → Verdict → Reading
-readingBy file ss n Pass = accepted file ss n
-readingBy file ss n (Refuse r) = refused r
-
 -- the answer for a file
-unfoldable pub readingOf : List ℕ → Reading
-readingOf file = readingBy file (sections file) (sectionCount file) (readRules file)
+unfoldable pub readingOf : Machine → List ℕ → Reading
+readingOf m file = decide refusedReading (acceptedReading file (sections file) (sectionCount file)) (readRules m file)

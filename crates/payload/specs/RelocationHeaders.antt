@@ -5,10 +5,10 @@ use mathlib.Core.List.{List}
 use lib.Dec.{ltb, eqb}
 use Rattle.words.specs.Scan.{scan}
 use Rattle.records.specs.Verdict.{must, _then_}
-use Rattle.records.specs.declared.refusal.Reason.the-variants.{Invalid}
 use Rattle.records.specs.declared.refusal.Place.the-variants.{Section}
 use Rattle.records.specs.declared.refusal.Verdict.{Verdict}
 use Rattle.records.specs.declared.refusal.Verdict.the-variants.{Pass}
+use Rattle.elf.specs.Layout.{relocationSize}
 use Rattle.object.specs.Kinds.{hasType, isKind}
 use Rattle.object.specs.Sections.{sectionIn}
 use Rattle.object.specs.declared.kinds.Kind.the-variants.{Placed, Records, Relocations, Ignored}
@@ -24,14 +24,14 @@ isTarget s =
 unfoldable pub relocationHeaderOk : List SectionEntry → ℕ → ℕ → SectionEntry → Bool
 relocationHeaderOk ss n table s =
     eqb (s .header .«sh_link») table
-    && eqb (s .header .«sh_entsize») 24
-    && eqb (s .header .«sh_size» % 24) 0
+    && eqb (s .header .«sh_entsize») relocationSize
+    && eqb (s .header .«sh_size» % relocationSize) 0
     && ltb (s .header .«sh_info») n
     && isTarget (sectionIn ss (s .header .«sh_info»))
 
 abbrev pub one-relocation-header : List SectionEntry → ℕ → ℕ → ℕ → Verdict → Verdict
 one-relocation-header ss n table i rest =
-    cond (isKind (sectionIn ss i .kind) Relocations) (must (relocationHeaderOk ss n table (sectionIn ss i)) Invalid (Section i)) Pass
+    cond (isKind (sectionIn ss i .kind) Relocations) (must (relocationHeaderOk ss n table (sectionIn ss i)) 22 (Section i)) Pass
     then rest
 
 -- by index; table is the symbol table's

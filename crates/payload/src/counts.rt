@@ -6,7 +6,6 @@ ghost use Rattle.payload.specs.Counts.{countOf, indexOf, symbolTableOk, 
 use elf::SectionHeader;
 use object::kinds::Kind;
 use object::sections::SectionEntry;
-use object::sections::{self};
 use records::payload::Payload;
 use records::refusal::Place;
 use records::refusal::Reason;
@@ -61,10 +60,10 @@ fn symbol_table_ok(
     requires { ⌜ count ≤ sectionsMax ⌝ }
     ensures { λ r. ⌜ r ≡ symbolTableOk table count h ⌝ }
 {
-    if h.sh_entsize != 24 {
+    if h.sh_entsize != elf::SYMBOL_SIZE as u64 {
         return false;
     }
-    if h.sh_size % 24 != 0 {
+    if h.sh_size % (elf::SYMBOL_SIZE as u64) != 0 {
         return false;
     }
     let link = h.sh_link as usize;
@@ -80,13 +79,14 @@ fn records_size_ok(h: SectionHeader) -> bool
     ensures { λ r. ⌜ r ≡ recordsSizeOk h ⌝ }
 {
     let size = h.sh_size;
-    if size < 64 {
+    let one = Payload::RECORD_SIZE as u64;
+    if size < one {
         return false;
     }
-    if 64 * (Payload::RECORDS_MAX as u64) < size {
+    if one * (Payload::RECORDS_MAX as u64) < size {
         return false;
     }
-    size % 64 == 0
+    size % one == 0
 }
 
 // One type 2 section with a right header, one of each of the three names, and a right number of records.
@@ -104,7 +104,7 @@ pub(crate) fn check_counts(table: [SectionEntry; Payload::SECTIONS_MAX], count: 
     let symbols = index_of(table, count, Kind::Symbols);
     let entry = table[symbols];
     if !symbol_table_ok(table, count, entry.header) {
-        return sections::refuse_at(Reason::Invalid, symbols as u16);
+        return Verdict::refused(Reason::Invalid, Place::Section(symbols as u16));
     }
     if count_of(table, count, Kind::Records) != 1 {
         return bad;
@@ -118,7 +118,7 @@ pub(crate) fn check_counts(table: [SectionEntry; Payload::SECTIONS_MAX], count: 
     let records = index_of(table, count, Kind::Records);
     let listed = table[records];
     if !records_size_ok(listed.header) {
-        return sections::refuse_at(Reason::Invalid, records as u16);
+        return Verdict::refused(Reason::Invalid, Place::Section(records as u16));
     }
     Verdict::Pass
 }

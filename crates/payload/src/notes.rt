@@ -3,13 +3,13 @@ ghost use mathlib.Core.Path.{_≡_};
 ghost use mathlib.Core.Bool.{true};
 ghost use Prim.Native.Nat.{_≤_};
 ghost use Rattle.records.specs.Limits.{sectionsMax};
-ghost use Rattle.payload.specs.Notes.{noteHeadOk, noteOk, idIn, isNoteKind, noteRules};
+ghost use Rattle.payload.specs.Notes.{noteHeadOk, noteOk, idIn, noteRules};
 use elf::Note;
-use object::kinds::Kind;
 use object::sections::SectionEntry;
 use object::sections::{self};
 use records::payload::BuildId;
 use records::payload::Payload;
+use records::refusal::Place;
 use records::refusal::Reason;
 use records::refusal::Verdict;
 
@@ -36,7 +36,7 @@ fn note_head_ok(head: Note) -> bool
 fn note_ok(note: &[u8]) -> bool
     ensures { λ r. ⌜ r ≡ noteOk (now (note .entry)) ⌝ }
 {
-    if note.len() < 16 {
+    if note.len() < elf::NOTE_HEAD_SIZE {
         return false;
     }
     let head = elf::read_note(note);
@@ -44,10 +44,10 @@ fn note_ok(note: &[u8]) -> bool
         return false;
     }
     let id_length = head.n_descsz as usize;
-    if note.len() != 16 + 4 * ((id_length + 3) / 4) {
+    if note.len() != elf::NOTE_HEAD_SIZE + 4 * ((id_length + 3) / 4) {
         return false;
     }
-    let padding = 16 + id_length;
+    let padding = elf::NOTE_HEAD_SIZE + id_length;
     words::bytes::all_zero(&note[padding..])
 }
 
@@ -58,29 +58,13 @@ pub(crate) fn id_in(note: &[u8]) -> BuildId
 {
     let head = elf::read_note(note);
     let id_length = head.n_descsz as usize;
-    let end = 16 + id_length;
+    let start = elf::NOTE_HEAD_SIZE;
+    let end = start + id_length;
     let mut bytes = [0u8; Payload::ID_MAX];
-    words::bytes::copy(&mut bytes, 0, &note[16..end]);
+    words::bytes::copy(&mut bytes, 0, &note[start..end]);
     BuildId {
         bytes,
         length: id_length as u32,
-    }
-}
-
-fn is_note(kind: Kind) -> bool
-    ensures { λ r. ⌜ r ≡ isNoteKind kind ⌝ }
-{
-    match kind {
-        Kind::Depends | Kind::BuildId => true,
-        Kind::Null
-        | Kind::Unnamed
-        | Kind::Placed
-        | Kind::Records
-        | Kind::Symbols
-        | Kind::Strings
-        | Kind::Relocations
-        | Kind::Ignored
-        | Kind::Unknown => false,
     }
 }
 
@@ -98,10 +82,10 @@ pub(crate) fn check_notes(
         let one = table[i];
         let kind = one.kind;
         let h = one.header;
-        if is_note(kind) {
+        if kind.is_note() {
             let note = sections::contents_of(file, h);
             if !note_ok(note) {
-                return sections::refuse_at(Reason::Invalid, i as u16);
+                return Verdict::refused(Reason::Invalid, Place::Section(i as u16));
             }
         }
         i += 1;

@@ -4,11 +4,13 @@ ghost use Prim.Native.Nat.{_≤_};
 ghost use Rattle.records.specs.Limits.{sectionsMax};
 ghost use Rattle.records.specs.declared.refusal.Verdict.the-variants.{Pass};
 ghost use mathlib.Core.Bool.{true};
-ghost use Rattle.payload.specs.Notes.{isNoteKind};
-ghost use Rattle.payload.specs.Reading.{tableRules, idOf, refused, accepted, readingOf};
+ghost use Rattle.machine.specs.Host.{machineOf};
+ghost use Rattle.object.specs.Kinds.{isNoteKind};
+ghost use Rattle.payload.specs.Reading.{tableRules, idOf, refusedReading, acceptedReading, readingOf};
 use super::counts;
 use super::notes;
 use super::relocation_headers;
+use machine::processor::Processor;
 use object::header;
 use object::kinds::Kind;
 use object::sections::SectionEntry;
@@ -26,24 +28,26 @@ pub struct Reading {
     // The indices of the symbol table and of the function records.
     pub symbols: usize,
     pub records: usize,
+    // Those of the two notes, the payload's id and the one that it depends on.
+    pub id_section: usize,
+    pub depends_section: usize,
     pub id: BuildId,
     pub dependency: BuildId,
 }
 
 fn refuse(r: Refusal) -> Reading
-    ensures { λ x. ⌜ x ≡ refused r ⌝ }
+    ensures { λ x. ⌜ x ≡ refusedReading r ⌝ }
 {
     let none = SectionEntry::none();
-    let no_id = BuildId {
-        bytes: [0u8; Payload::ID_MAX],
-        length: 0,
-    };
+    let no_id = BuildId::none();
     Reading {
         verdict: Verdict::Refuse(r),
         count: 0,
         sections: [none; Payload::SECTIONS_MAX],
         symbols: 0,
         records: 0,
+        id_section: 0,
+        depends_section: 0,
         id: no_id,
         dependency: no_id,
     }
@@ -87,7 +91,7 @@ fn id_of(
 
 fn accept(file: &[u8], table: [SectionEntry; Payload::SECTIONS_MAX], count: usize) -> Reading
     requires { ⌜ (count ≤ sectionsMax) × (tableRules (now file) table count ≡ Pass) ⌝ }
-    ensures { λ r. ⌜ r ≡ accepted (now (file .entry)) table count ⌝ }
+    ensures { λ r. ⌜ r ≡ acceptedReading (now (file .entry)) table count ⌝ }
 {
     Reading {
         verdict: Verdict::Pass,
@@ -95,16 +99,18 @@ fn accept(file: &[u8], table: [SectionEntry; Payload::SECTIONS_MAX], count: usiz
         sections: table,
         symbols: counts::index_of(table, count, Kind::Symbols),
         records: counts::index_of(table, count, Kind::Records),
+        id_section: counts::index_of(table, count, Kind::BuildId),
+        depends_section: counts::index_of(table, count, Kind::Depends),
         id: id_of(file, table, count, Kind::BuildId),
         dependency: id_of(file, table, count, Kind::Depends),
     }
 }
 
 // Any bytes: the first rule that is broken, or what was read.
-pub fn read(file: &[u8]) -> Reading
-    ensures { λ r. ⌜ r ≡ readingOf (now (file .entry)) ⌝ }
+pub fn read(processor: Processor, file: &[u8]) -> Reading
+    ensures { λ r. ⌜ r ≡ readingOf (machineOf processor) (now (file .entry)) ⌝ }
 {
-    let head = header::check_header(file);
+    let head = header::check_header(processor, file);
     if let Verdict::Refuse(r) = head {
         return refuse(r);
     }

@@ -5,8 +5,8 @@ ghost use Rattle.records.specs.Limits.{sectionsMax};
 ghost use Rattle.payload.specs.RelocationHeaders.{isTarget, relocationHeaderOk, relocationHeaderRules};
 use object::kinds::Kind;
 use object::sections::SectionEntry;
-use object::sections::{self};
 use records::payload::Payload;
+use records::refusal::Place;
 use records::refusal::Reason;
 use records::refusal::Verdict;
 
@@ -44,10 +44,10 @@ fn relocation_header_ok(
     if h.sh_link != symbols as u64 {
         return false;
     }
-    if h.sh_entsize != 24 {
+    if h.sh_entsize != elf::RELOCATION_SIZE as u64 {
         return false;
     }
-    if h.sh_size % 24 != 0 {
+    if h.sh_size % (elf::RELOCATION_SIZE as u64) != 0 {
         return false;
     }
     let target = h.sh_info as usize;
@@ -73,7 +73,7 @@ pub(crate) fn check_relocation_headers(
         let kind = one.kind;
         if let Kind::Relocations = kind {
             if !relocation_header_ok(table, count, symbols, one) {
-                return sections::refuse_at(Reason::Invalid, i as u16);
+                return Verdict::refused(Reason::Invalid, Place::Section(i as u16));
             }
         }
         i += 1;

@@ -8,17 +8,17 @@ use lib.ListN.{replicate}
 use Rattle.words.specs.Scan.{scan, filled}
 use Rattle.words.specs.Splice.{splice}
 use Rattle.records.specs.Limits.{sectionsMax, placedMax}
-use Rattle.records.specs.Verdict.{refusal, must, _then_}
-use Rattle.records.specs.declared.refusal.Reason.the-variants.{NoRoom}
+use Rattle.records.specs.Verdict.{refusal, must, _then_, decide}
+use Rattle.records.specs.Refusal.{reasonFor}
 use Rattle.records.specs.declared.refusal.Place.the-variants.{Section}
 use Rattle.records.specs.declared.refusal.Refusal.{Refusal}
 use Rattle.records.specs.declared.refusal.Verdict.{Verdict}
 use Rattle.records.specs.declared.refusal.Verdict.the-variants.{Pass, Refuse}
-use Rattle.object.specs.Kinds.{isAllocated, hasType, isKind}
-use Rattle.payload.specs.Notes.{isNoteKind}
+use Rattle.object.specs.Kinds.{isAllocated, hasType, isKind, isNoteKind}
 use Rattle.object.specs.Sections.{sectionIn, contentsOf}
 use Rattle.object.specs.declared.kinds.Kind.the-variants.{Placed, Records}
 use Rattle.object.specs.declared.sections.SectionEntry.{SectionEntry}
+use Rattle.placement.specs.declared.Layout.{Layout}
 use Rattle.placement.specs.declared.Placement.{Placement}
 use Rattle.placement.specs.declared.Step.{Step}
 use Rattle.placement.specs.declared.Step.the-variants.{At, Over}
@@ -32,38 +32,31 @@ unfoldable pub nextMultiple : ℕ → ℕ → ℕ
 nextMultiple at align = cond (eqb align 0) at (cond (eqb (at % align) 0) at (at + (align - at % align)))
 
 -- where a section starts, and where what is placed ends after it, if end bytes were placed before
-abbrev pub startFrom : ℕ → SectionEntry → ℕ
-startFrom end s = cond (isPlaced s) (nextMultiple end (s .header .«sh_addralign»)) 0
+abbrev pub sectionStart : ℕ → SectionEntry → ℕ
+sectionStart end s = cond (isPlaced s) (nextMultiple end (s .header .«sh_addralign»)) 0
 
-abbrev pub endFrom : ℕ → SectionEntry → ℕ
-endFrom end s = cond (isPlaced s) (nextMultiple end (s .header .«sh_addralign») + s .header .«sh_size») end
+abbrev pub sectionEnd : ℕ → SectionEntry → ℕ
+sectionEnd end s = cond (isPlaced s) (nextMultiple end (s .header .«sh_addralign») + s .header .«sh_size») end
 
 -- how many bytes the sections before section i take: in index order, from the slot's start
 unfoldable pub endBefore : List SectionEntry → ℕ → ℕ
 endBefore ss zero = 0
-endBefore ss (suc i) = endFrom (endBefore ss i) (sectionIn ss i)
+endBefore ss (suc i) = sectionEnd (endBefore ss i) (sectionIn ss i)
 
 -- the offset of section i in the slot
 unfoldable pub offsetOf : List SectionEntry → ℕ → ℕ
-offsetOf ss i = startFrom (endBefore ss i) (sectionIn ss i)
-
-abbrev pub limitFor : SectionEntry → ℕ
-limitFor s = cond (isPlaced s) (s .header .«sh_size» + 1) 0
-
--- where a symbol's value in section i must lie below: "a placed section's address plus a value at most its size". No value lies in another section.
-unfoldable pub limitOf : List SectionEntry → ℕ → ℕ
-limitOf ss i = limitFor (sectionIn ss i)
+offsetOf ss i = sectionStart (endBefore ss i) (sectionIn ss i)
 
 -- "placed bytes over 8,192": "the section that passes 8,192"
 abbrev pub one-placed : List SectionEntry → ℕ → Verdict → Verdict
-one-placed ss i rest = must (leb (endBefore ss (suc i)) placedMax) NoRoom (Section i) then rest
+one-placed ss i rest = must (leb (endBefore ss (suc i)) placedMax) 12 (Section i) then rest
 
 unfoldable pub placementRules : List SectionEntry → ℕ → Verdict
 placementRules ss n = scan (one-placed ss) Pass 0 n
 
 -- one step of it, as the code takes it
 unfoldable pub stepOf : ℕ → SectionEntry → Step
-stepOf end s = cond (leb (endFrom end s) placedMax) (At (startFrom end s) (endFrom end s)) Over
+stepOf end s = cond (leb (sectionEnd end s) placedMax) (At (sectionStart end s) (sectionEnd end s)) Over
 
 -- "Type 8 and gaps are zero": contents come from the file for the other types
 unfoldable pub hasContents : SectionEntry → Bool
@@ -77,29 +70,31 @@ imageBefore file ss (suc i) =
     (splice (imageBefore file ss i) (offsetOf ss i) (contentsOf file (sectionIn ss i .header)))
     (imageBefore file ss i)
 
-abbrev pub refusedBy : Refusal → Placement
-refusedBy r =
-    record {
-      verdict = Refuse r;
-      offsets = replicate sectionsMax 0;
-      limits = replicate sectionsMax 0;
-      placed = 0;
-      image = replicate placedMax 0;
-    }
+-- ---- what is kept of it for the symbols
+
+-- what the value of a symbol in this section must lie below: at most its size in a placed one, and nothing in another
+abbrev pub boundFor : SectionEntry → ℕ
+boundFor s = cond (isPlaced s) (s .header .«sh_size» + 1) 0
+
+unfoldable pub layoutOf : List SectionEntry → ℕ → Layout
+layoutOf ss n = record {
+  offsets = filled (offsetOf ss) 0 sectionsMax n;
+  bounds = filled (λ i. boundFor (sectionIn ss i)) 0 sectionsMax n;
+}
+
+-- ---- the answer
+
+abbrev pub noLayout : Layout
+noLayout = record { offsets = replicate sectionsMax 0; bounds = replicate sectionsMax 0 }
+
+abbrev pub refusedPlacement : Refusal → Placement
+refusedPlacement r = record { verdict = Refuse r; layout = noLayout; placed = 0; image = replicate placedMax 0 }
 
 unfoldable pub refusedAt : ℕ → Placement
-refusedAt i = refusedBy (refusal NoRoom (Section i))
+refusedAt i = refusedPlacement (refusal (reasonFor 12) (Section i))
 
-abbrev pub placedBy : List ℕ → List SectionEntry → ℕ → Verdict → Placement
-placedBy file ss n Pass =
-    record {
-      verdict = Pass;
-      offsets = filled (offsetOf ss) 0 sectionsMax n;
-      limits = filled (limitOf ss) 0 sectionsMax n;
-      placed = endBefore ss n;
-      image = imageBefore file ss n;
-    }
-placedBy file ss n (Refuse r) = refusedBy r
+abbrev pub acceptedPlacement : List ℕ → List SectionEntry → ℕ → Placement
+acceptedPlacement file ss n = record { verdict = Pass; layout = layoutOf ss n; placed = endBefore ss n; image = imageBefore file ss n }
 
 unfoldable pub placementOf : List ℕ → List SectionEntry → ℕ → Placement
-placementOf file ss n = placedBy file ss n (placementRules ss n)
+placementOf file ss n = decide refusedPlacement (acceptedPlacement file ss n) (placementRules ss n)

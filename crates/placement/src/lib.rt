@@ -2,7 +2,7 @@
 ghost use mathlib.Core.Path.{_≡_};
 ghost use Prim.Native.Nat.{_+_, _≤_};
 ghost use Rattle.records.specs.Limits.{sectionsMax, placedMax};
-ghost use Rattle.placement.specs.Placement.{isPlaced, nextMultiple, stepOf, limitFor, hasContents, refusedAt, placementOf};
+ghost use Rattle.placement.specs.Placement.{isPlaced, nextMultiple, stepOf, boundFor, hasContents, refusedAt, placementOf};
 use object::kinds::Kind;
 use object::sections::SectionEntry;
 use object::sections::{self};
@@ -12,13 +12,18 @@ use records::refusal::Reason;
 use records::refusal::Refusal;
 use records::refusal::Verdict;
 
+// Where the sections stand.
+pub struct Layout {
+    // Each section's offset in the slot; 0 for those not placed.
+    pub offsets: [u64; Payload::SECTIONS_MAX],
+    // What the value of a symbol in the section must lie below; 0 for those not placed.
+    pub bounds: [u64; Payload::SECTIONS_MAX],
+}
+
 // What placement decides: all zero where the verdict refuses.
 pub struct Placement {
     pub verdict: Verdict,
-    // Each section's offset in the slot; 0 for those not placed.
-    pub offsets: [u64; Payload::SECTIONS_MAX],
-    // One more than the largest value that a symbol of the section may have; 0 for those not placed.
-    pub limits: [u64; Payload::SECTIONS_MAX],
+    pub layout: Layout,
     // How many bytes are placed.
     pub placed: u64,
     // The slot's bytes before relocation.
@@ -93,9 +98,9 @@ fn has_contents(s: SectionEntry) -> bool
 }
 
 // What a symbol's value must lie below, in a section that fits the slot.
-fn limit_for(s: SectionEntry) -> u64
-    requires { ⌜ limitFor s ≤ placedMax + 1 ⌝ }
-    ensures { λ r. ⌜ r ≡ limitFor s ⌝ }
+fn bound_for(s: SectionEntry) -> u64
+    requires { ⌜ boundFor s ≤ placedMax + 1 ⌝ }
+    ensures { λ r. ⌜ r ≡ boundFor s ⌝ }
 {
     if !is_placed(s) {
         return 0;
@@ -107,13 +112,16 @@ fn limit_for(s: SectionEntry) -> u64
 fn refuse_at(i: u16) -> Placement
     ensures { λ r. ⌜ r ≡ refusedAt i ⌝ }
 {
+    let layout = Layout {
+        offsets: [0u64; Payload::SECTIONS_MAX],
+        bounds: [0u64; Payload::SECTIONS_MAX],
+    };
     Placement {
         verdict: Verdict::Refuse(Refusal {
             reason: Reason::NoRoom,
             place: Place::Section(i),
         }),
-        offsets: [0u64; Payload::SECTIONS_MAX],
-        limits: [0u64; Payload::SECTIONS_MAX],
+        layout,
         placed: 0,
         image: [0u8; Payload::PLACED_MAX],
     }
@@ -125,7 +133,7 @@ pub fn place(file: &[u8], table: [SectionEntry; Payload::SECTIONS_MAX], count: u
     ensures { λ r. ⌜ r ≡ placementOf (now (file .entry)) table count ⌝ }
 {
     let mut offsets = [0u64; Payload::SECTIONS_MAX];
-    let mut limits = [0u64; Payload::SECTIONS_MAX];
+    let mut bounds = [0u64; Payload::SECTIONS_MAX];
     let mut image = [0u8; Payload::PLACED_MAX];
     let mut end = 0;
     let mut i = 0;
@@ -139,14 +147,14 @@ pub fn place(file: &[u8], table: [SectionEntry; Payload::SECTIONS_MAX], count: u
             words::bytes::copy(&mut image, start as usize, sections::contents_of(file, h));
         }
         offsets[i] = start;
-        limits[i] = limit_for(one);
+        bounds[i] = bound_for(one);
         end = next;
         i += 1;
     }
+    let layout = Layout { offsets, bounds };
     Placement {
         verdict: Verdict::Pass,
-        offsets,
-        limits,
+        layout,
         placed: end,
         image,
     }

@@ -5,73 +5,73 @@ use mathlib.Core.Path.{_≡_}
 use mathlib.Core.List.{List}
 use lib.Dec.{leb, eqb}
 use lib.ListN.{length, replicate}
-use Rattle.records.specs.Limits.{placedMax, recordsMax, textMax}
-use Rattle.records.specs.Payload.{no-edit, no-id}
-use Rattle.records.specs.Verdict.{must, _then_}
-use Rattle.records.specs.declared.refusal.Reason.the-variants.{Invalid}
+use Rattle.records.specs.Limits.{placedMax, recordsMax}
+use Rattle.records.specs.Payload.{noEdit, noId}
+use Rattle.records.specs.Verdict.{must, _then_, decide}
 use Rattle.records.specs.declared.refusal.Place.the-variants.{Nowhere}
 use Rattle.records.specs.declared.refusal.Refusal.{Refusal}
 use Rattle.records.specs.declared.refusal.Verdict.{Verdict}
 use Rattle.records.specs.declared.refusal.Verdict.the-variants.{Pass, Refuse}
-use Rattle.payload.specs.Counts.{indexOf}
-use Rattle.payload.specs.Reading.{readRules, idOf}
-use Rattle.object.specs.Sections.{sectionCount, sections}
-use Rattle.object.specs.declared.kinds.Kind.{Kind}
-use Rattle.object.specs.declared.kinds.Kind.the-variants.{Depends, Symbols}
-use Rattle.object.specs.declared.sections.SectionEntry.{SectionEntry}
+use Rattle.machine.specs.Host.{textMax}
+use Rattle.machine.specs.Machine.{Machine}
+use Rattle.payload.specs.Reading.{readRules}
+use Rattle.payload.specs.declared.read.Reading.{Reading}
 use Rattle.functions.specs.Functions.{editsOf}
 use Rattle.acceptance.specs.Broken.{Exact}
-use Rattle.acceptance.specs.Consulted.{Alike}
-use Rattle.acceptance.specs.Stages.{Target, relocatedOf, placedLength, recordsIndex, recordCount, patchingOf, payloadRules, buildRules}
+use Rattle.acceptance.specs.Consulted.{Alike, DifferInIgnored}
+use Rattle.acceptance.specs.Stages.{
+  Setting,
+  readingFor,
+  relocatedOf,
+  placedLength,
+  recordsStart,
+  recordCount,
+  patchingOf,
+  payloadRules,
+  buildRules,
+}
 use Rattle.prepare.specs.declared.build.Built.{Built}
 use Rattle.prepare.specs.declared.prepare.Prepared.{Prepared}
 
--- ---- the rules in their order
+-- ---- what is built of a file that is read: nothing where a rule is broken
 
--- the slot's bytes and the text have their sizes
-abbrev pub sizesOk : Target → List ℕ → Bool
-sizesOk t image = eqb (length image) placedMax && leb (t .size) textMax
+-- what build asks of the reading: it is that of the file, which passes
+pub record Ready (m : Machine) (file : List ℕ) (g : Reading) : Type 0 where
+  pub passes : readRules m file ≡ Pass
+  pub read : g ≡ readingFor file
 
--- sizes first, then the payload's own rules
-unfoldable pub prepareRules : Target → List ℕ → List ℕ → Verdict
-prepareRules t file image = must (sizesOk t image) Invalid Nowhere then payloadRules t file
-
--- ---- what is built: nothing where a rule is broken
-
-abbrev pub nothingBuilt : Refusal → Built
-nothingBuilt r =
+abbrev pub refusedBuilt : Refusal → Built
+refusedBuilt r =
     record {
       verdict = Refuse r;
       placed = 0;
-      edits = replicate recordsMax no-edit;
+      edits = replicate recordsMax noEdit;
       «edit_count» = 0;
       image = replicate placedMax 0;
     }
 
-abbrev pub allBuilt : Target → List ℕ → Built
-allBuilt t file =
+abbrev pub acceptedBuilt : Setting → List ℕ → Built
+acceptedBuilt t file =
     record {
       verdict = Pass;
       placed = placedLength file;
-      edits = editsOf (patchingOf t file) (recordCount file);
+      edits = editsOf (patchingOf t file) (recordsStart file) (recordCount file);
       «edit_count» = recordCount file;
       image = relocatedOf t file .image;
     }
 
-abbrev pub builtBy : Target → List ℕ → Verdict → Built
-builtBy t file Pass = allBuilt t file
-builtBy t file (Refuse r) = nothingBuilt r
+unfoldable pub builtOf : Setting → List ℕ → Built
+builtOf t file = decide refusedBuilt (acceptedBuilt t file) (buildRules t file)
 
-unfoldable pub builtOf : Target → List ℕ → Built
-builtOf t file = builtBy t file (buildRules t file)
+-- ---- the rules of the call
 
--- what the reading of a file that passes has given
-pub record Ready (file : List ℕ) (ss : List SectionEntry) (n symbols records : ℕ) : Type 0 where
-  pub passes : readRules file ≡ Pass
-  pub table : ss ≡ sections file
-  pub count : n ≡ sectionCount file
-  pub symbol-table : symbols ≡ indexOf (sections file) (sectionCount file) Symbols
-  pub record-table : records ≡ recordsIndex file
+-- the slot's bytes and the text have their sizes
+abbrev pub sizesOk : Setting → List ℕ → Bool
+sizesOk t image = eqb (length image) placedMax && leb (t .host .«text_length») textMax
+
+-- sizes first, then the payload's own rules
+unfoldable pub prepareRules : Setting → List ℕ → List ℕ → Verdict
+prepareRules t file image = must (sizesOk t image) 22 Nowhere then payloadRules t file
 
 -- ---- the answer, and the image buffer after it
 
@@ -82,38 +82,42 @@ pub record Outcome : Type 0 where
 abbrev pub outcome : Prepared → List ℕ → Outcome
 outcome answer image = record { answer = answer; image = image }
 
-abbrev pub refusedBy : Refusal → Prepared
-refusedBy r =
+abbrev pub refusedPrepared : Refusal → Prepared
+refusedPrepared r =
     record {
       verdict = Refuse r;
-      id = no-id;
-      dependency = no-id;
+      id = noId;
+      dependency = noId;
       placed = 0;
-      edits = replicate recordsMax no-edit;
+      edits = replicate recordsMax noEdit;
       «edit_count» = 0;
     }
 
-abbrev pub acceptedOf : Target → List ℕ → Prepared
-acceptedOf t file =
+abbrev pub acceptedPrepared : Setting → List ℕ → Prepared
+acceptedPrepared t file =
     record {
       verdict = Pass;
-      id = idOf file (sections file) (sectionCount file) Kind.BuildId;
-      dependency = idOf file (sections file) (sectionCount file) Depends;
+      id = readingFor file .id;
+      dependency = readingFor file .dependency;
       placed = placedLength file;
-      edits = editsOf (patchingOf t file) (recordCount file);
+      edits = editsOf (patchingOf t file) (recordsStart file) (recordCount file);
       «edit_count» = recordCount file;
     }
 
 -- a refusal leaves the image as it was
-abbrev pub outcomeBy : Target → List ℕ → List ℕ → Verdict → Outcome
-outcomeBy t file image Pass = outcome (acceptedOf t file) (relocatedOf t file .image)
-outcomeBy t file image (Refuse r) = outcome (refusedBy r) image
-
-unfoldable pub prepareOf : Target → List ℕ → List ℕ → Outcome
-prepareOf t file image = outcomeBy t file image (prepareRules t file image)
+unfoldable pub prepareOf : Setting → List ℕ → List ℕ → Outcome
+prepareOf t file image =
+    decide (λ r. outcome (refusedPrepared r) image) (outcome (acceptedPrepared t file) (relocatedOf t file .image))
+    (prepareRules t file image)
 
 -- what an outcome tells of the payload: where the sizes are right, it is accepted exactly when it keeps every rule, and a refusal names
--- a rule that is broken; and a file that differs in no byte that is consulted has the same outcome
-pub record Faithful (t : Target) (file image : List ℕ) (o : Outcome) : Type 0 where
+-- a rule that is broken; and a file that differs in no byte that is consulted, or only in bytes of ignored contents, has the same outcome
+pub record Faithful (t : Setting) (file image : List ℕ) (o : Outcome) : Type 0 where
   pub exact : sizesOk t image ≡ true → Exact t file (o .answer .verdict)
   pub unconsulted : (other : List ℕ) → Alike file other → prepareOf t other image ≡ o
+  pub ignored : (other : List ℕ) → DifferInIgnored file other → prepareOf t other image ≡ o
+
+-- all that `prepare` promises
+pub record Prepares (t : Setting) (file image : List ℕ) (o : Outcome) : Type 0 where
+  pub equal : o ≡ prepareOf t file image
+  pub faithful : Faithful t file image o

@@ -1,10 +1,11 @@
 // From a file that is read to the slot's bytes and the edits: placement, relocation, function records.
 ghost use mathlib.Core.Path.{_≡_};
 ghost use Prim.Native.Nat.{_≤_};
-ghost use Rattle.records.specs.Limits.{textMax};
-ghost use Rattle.acceptance.specs.Stages.{target};
-ghost use Rattle.prepare.specs.Prepare.{nothingBuilt, Ready, builtOf};
-use object::sections::SectionEntry;
+ghost use Rattle.machine.specs.Host.{hostMachine, textMax};
+ghost use Rattle.acceptance.specs.Stages.{setting};
+ghost use Rattle.prepare.specs.Prepare.{refusedBuilt, Ready, builtOf};
+use machine::host::Host;
+use payload::read::Reading;
 use records::payload::Edit;
 use records::payload::Payload;
 use records::refusal::Refusal;
@@ -20,71 +21,43 @@ pub struct Built {
 }
 
 fn nothing_built(r: Refusal) -> Built
-    ensures { λ x. ⌜ x ≡ nothingBuilt r ⌝ }
+    ensures { λ x. ⌜ x ≡ refusedBuilt r ⌝ }
 {
-    let none = Payload::empty();
-    let no_edits = none.edits;
+    let none = Edit::none();
     Built {
         verdict: Verdict::Refuse(r),
         placed: 0,
-        edits: no_edits,
+        edits: [none; Payload::RECORDS_MAX],
         edit_count: 0,
         image: [0u8; Payload::PLACED_MAX],
     }
 }
 
-// The file's sections `table` for the slot at `base` and the text at `text`: `symbols` and `records` are the indices of the
-// symbol table and of the function records.
-pub(crate) fn build(
-    file: &[u8],
-    list: &[u8],
-    text: u64,
-    size: u64,
-    base: u64,
-    table: [SectionEntry; Payload::SECTIONS_MAX],
-    count: usize,
-    symbols: usize,
-    records: usize,
-) -> Built
-    requires { ⌜ Ready (now file) table count symbols records × (size ≤ textMax) ⌝ }
-    ensures { λ r. ⌜ r ≡ builtOf (target text size base (now (list .entry))) (now (file .entry)) ⌝ }
+// The file, which is read, for the host's slot and text.
+pub fn build(file: &[u8], list: &[u8], host: Host, reading: Reading) -> Built
+    requires { ⌜ Ready (hostMachine host) (now file) reading × (host .«text_length» ≤ textMax) ⌝ }
+    ensures { λ r. ⌜ r ≡ builtOf (setting host (now (list .entry))) (now (file .entry)) ⌝ }
 {
-    let placement = placement::place(file, table, count);
+    let table = reading.sections;
+    let placement = placement::place(file, table, reading.count);
     let placed_verdict = placement.verdict;
     if let Verdict::Refuse(r) = placed_verdict {
         return nothing_built(r);
     }
     let mut image = placement.image;
-    let offsets = placement.offsets;
-    let limits = placement.limits;
-    let placed = placement.placed;
-    let relocated = relocation::relocate::relocate(
-        &mut image,
-        file,
-        table,
-        count,
-        symbols,
-        base,
-        &offsets,
-        &limits,
-        list,
-    );
+    let layout = placement.layout;
+    let relocated = relocation::relocate::relocate(&mut image, file, list, host, reading, layout);
     if let Verdict::Refuse(r) = relocated {
         return nothing_built(r);
     }
+    let records = reading.records;
     let entry = table[records];
     let header = entry.header;
+    let offsets = layout.offsets;
     let start = offsets[records] as usize;
-    let end = placed as usize;
-    let found = functions::read::read_functions(
-        text,
-        size,
-        base,
-        &image[..end],
-        start,
-        list,
-        (header.sh_size / 64) as usize,
-    );
+    let end = placement.placed as usize;
+    let count = header.sh_size as usize / Payload::RECORD_SIZE;
+    let found = functions::read::read_functions(host, &image[..end], list, start, count);
     let found_verdict = found.verdict;
     if let Verdict::Refuse(r) = found_verdict {
         return nothing_built(r);
@@ -92,7 +65,7 @@ pub(crate) fn build(
     let edits = found.edits;
     Built {
         verdict: Verdict::Pass,
-        placed,
+        placed: placement.placed,
         edits,
         edit_count: found.count,
         image,

@@ -1,10 +1,9 @@
 // A payload prepared in one call.
 ghost use mathlib.Core.Path.{_≡_};
-ghost use Rattle.acceptance.specs.Stages.{target};
-ghost use Rattle.prepare.specs.Prepare.{refusedBy, outcome, prepareOf, Faithful};
-use super::build::Built;
-use super::build::{self};
-use payload::read::Reading;
+ghost use Rattle.acceptance.specs.Stages.{setting};
+ghost use Rattle.prepare.specs.Prepare.{refusedPrepared, outcome, Prepares};
+use super::build;
+use machine::host::Host;
 use records::payload::BuildId;
 use records::payload::Edit;
 use records::payload::Payload;
@@ -24,32 +23,25 @@ pub struct Prepared {
 }
 
 fn refuse(r: Refusal) -> Prepared
-    ensures { λ x. ⌜ x ≡ refusedBy r ⌝ }
+    ensures { λ x. ⌜ x ≡ refusedPrepared r ⌝ }
 {
-    let none = Payload::empty();
-    let no_edits = none.edits;
-    let no_id = none.dependency;
+    let no_edit = Edit::none();
+    let no_id = BuildId::none();
     Prepared {
         verdict: Verdict::Refuse(r),
         id: no_id,
         dependency: no_id,
         placed: 0,
-        edits: no_edits,
+        edits: [no_edit; Payload::RECORDS_MAX],
         edit_count: 0,
     }
 }
 
-// The payload `file` for the slot at `base` and the `size` bytes of text at `text`. `image` is the slot's 8,192 bytes; a
-// refusal leaves them as they were. Any bytes and any numbers get an answer.
-pub fn prepare(
-    file: &[u8],
-    list: &[u8],
-    text: u64,
-    size: u64,
-    base: u64,
-    image: &mut [u8],
-) -> Prepared
-    ensures { λ r. ⌜ (outcome r (now (image .exit)) ≡ prepareOf (target text size base (now (list .entry))) (now (file .entry)) (now (image .entry))) × Faithful (target text size base (now (list .entry))) (now (file .entry)) (now (image .entry)) (outcome r (now (image .exit))) ⌝ }
+// The payload `file` for the host's slot and text. `image` is the slot's 8,192 bytes; a refusal leaves them as they were. Any
+// bytes and any numbers get an answer.
+pub fn prepare(file: &[u8], list: &[u8], host: Host, image: &mut [u8]) -> Prepared
+    ensures { λ r. ⌜ Prepares (setting host (now (list .entry))) (now (file .entry)) (now (image .entry))
+        (outcome r (now (image .exit))) ⌝ }
 {
     let bad = Refusal {
         reason: Reason::Invalid,
@@ -58,26 +50,16 @@ pub fn prepare(
     if image.len() != Payload::PLACED_MAX {
         return refuse(bad);
     }
-    if (Payload::TEXT_MAX as u64) < size {
+    if Host::TEXT_MAX < host.text_length {
         return refuse(bad);
     }
-    let reading = payload::read::read(file);
+    let processor = host.processor;
+    let reading = payload::read::read(processor, file);
     let read_verdict = reading.verdict;
     if let Verdict::Refuse(r) = read_verdict {
         return refuse(r);
     }
-    let table = reading.sections;
-    let built = build::build(
-        file,
-        list,
-        text,
-        size,
-        base,
-        table,
-        reading.count,
-        reading.symbols,
-        reading.records,
-    );
+    let built = build::build(file, list, host, reading);
     let built_verdict = built.verdict;
     if let Verdict::Refuse(r) = built_verdict {
         return refuse(r);

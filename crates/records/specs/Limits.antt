@@ -17,6 +17,10 @@ sectionsMax = 64
 abbrev pub recordsMax : ℕ
 recordsMax = 16
 
+-- "64 bytes, 1 to 16 of them": the bytes of a function record
+abbrev pub recordSize : ℕ
+recordSize = 64
+
 -- "8,192 placed bytes"
 abbrev pub placedMax : ℕ
 placedMax = 8192
@@ -35,21 +39,18 @@ nameMin = 2
 abbrev pub nameMax : ℕ
 nameMax = 128
 
--- "Text: 1 to 16,777,216 bytes"
-abbrev pub textMax : ℕ
-textMax = 16777216
-
-unfoldable pub limits : Limits
-limits =
+-- all of them, as the code has them
+unfoldable pub allLimits : Limits
+allLimits =
     record {
       «file_min» = fileMin;
       «file_max» = fileMax;
       «sections_max» = sectionsMax;
       «records_max» = recordsMax;
+      «record_size» = recordSize;
       «placed_max» = placedMax;
       «id_min» = idMin;
       «id_max» = idMax;
       «name_min» = nameMin;
       «name_max» = nameMax;
-      «text_max» = textMax;
     }

@@ -9,11 +9,11 @@ use Rattle.records.specs.declared.payload.EditKind.the-variants.{Fill}
 use Rattle.records.specs.declared.payload.Payload.{Payload}
 use Rattle.records.specs.Limits.{nameMax, idMax, recordsMax}
 
-abbrev pub no-edit : Edit
-no-edit = record { offset = 0; length = 0; kind = Fill }
+abbrev pub noEdit : Edit
+noEdit = record { offset = 0; length = 0; kind = Fill }
 
-unfoldable pub no-id : BuildId
-no-id = record { bytes = replicate idMax 0; length = 0 }
+unfoldable pub noId : BuildId
+noId = record { bytes = replicate idMax 0; length = 0 }
 
 -- document 01: "A name is kept in 128 bytes, zero after its end"
 unfoldable pub keptName : List ℕ → List ℕ
@@ -29,9 +29,9 @@ named name =
       status = 0;
       result = 0;
       «id_length» = 0;
-      dependency = no-id;
+      dependency = noId;
       placed = 0;
-      edits = replicate recordsMax no-edit;
+      edits = replicate recordsMax noEdit;
       «edit_count» = 0;
     }
 

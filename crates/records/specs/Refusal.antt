@@ -1,5 +1,7 @@
 -- Document 01, "When the loader says no": each case's number, and what a place prints.
 use Prim.Native.Nat.{ℕ, _+_, _*_, _^_}
+use mathlib.Core.Bool.{cond}
+use lib.Dec.{eqb}
 use Rattle.records.specs.declared.refusal.Reason.{Reason}
 use Rattle.records.specs.declared.refusal.Reason.the-variants.{
   NotLoaded,
@@ -15,7 +17,7 @@ use Rattle.records.specs.declared.refusal.Reason.the-variants.{
   Unsupported,
 }
 use Rattle.records.specs.declared.refusal.Place.{Place}
-use Rattle.records.specs.declared.refusal.Place.the-variants.{Nowhere, Section, Relocation, Record}
+use Rattle.records.specs.declared.refusal.Place.the-variants.{Nowhere, Section, Entry, Record}
 use Rattle.records.specs.declared.refusal.Refusal.{Refusal}
 use Rattle.records.specs.declared.refusal.Verdict.{Verdict}
 use Rattle.records.specs.declared.refusal.Verdict.the-variants.{Pass, Refuse}
@@ -45,34 +47,49 @@ numberOf OutOfRange = 34
 -- "as named above": what the loader does not know
 numberOf Unsupported = 95
 
+-- the reason that has this number
+abbrev pub reasonFor : ℕ → Reason
+reasonFor number =
+    cond (eqb number (numberOf NotLoaded)) NotLoaded
+    (cond (eqb number (numberOf NotListed)) NotListed
+    (cond (eqb number (numberOf TooMany)) TooMany
+    (cond (eqb number (numberOf BadHeader)) BadHeader
+    (cond (eqb number (numberOf NoRoom)) NoRoom
+    (cond (eqb number (numberOf Busy)) Busy
+    (cond (eqb number (numberOf Loaded)) Loaded
+    (cond (eqb number (numberOf WrongBase)) WrongBase
+    (cond (eqb number (numberOf OutOfRange)) OutOfRange
+    (cond (eqb number (numberOf Unsupported)) Unsupported
+    Invalid)))))))))
+
 -- "a place: section, or relocation section and entry, or record; 0 else"
-abbrev pub kindOf : Place → ℕ
-kindOf Nowhere = 0
-kindOf (Section i) = 1
-kindOf (Relocation i e) = 2
-kindOf (Record r) = 3
+abbrev pub placeKind : Place → ℕ
+placeKind Nowhere = 0
+placeKind (Section i) = 1
+placeKind (Entry i e) = 2
+placeKind (Record r) = 3
 
-abbrev pub firstOf : Place → ℕ
-firstOf Nowhere = 0
-firstOf (Section i) = i
-firstOf (Relocation i e) = i
-firstOf (Record r) = r
+abbrev pub placeFirst : Place → ℕ
+placeFirst Nowhere = 0
+placeFirst (Section i) = i
+placeFirst (Entry i e) = i
+placeFirst (Record r) = r
 
-abbrev pub secondOf : Place → ℕ
-secondOf Nowhere = 0
-secondOf (Section i) = 0
-secondOf (Relocation i e) = e
-secondOf (Record r) = 0
+abbrev pub placeSecond : Place → ℕ
+placeSecond Nowhere = 0
+placeSecond (Section i) = 0
+placeSecond (Entry i e) = e
+placeSecond (Record r) = 0
 
 -- a refusal in one number, as the C boundary returns it
-unfoldable pub codeOf : Refusal → ℕ
-codeOf r =
+unfoldable pub refusalCode : Refusal → ℕ
+refusalCode r =
     numberOf (r .reason)
-    + 2 ^ 8 * kindOf (r .place)
-    + 2 ^ 16 * firstOf (r .place)
-    + 2 ^ 32 * secondOf (r .place)
+    + 2 ^ 8 * placeKind (r .place)
+    + 2 ^ 16 * placeFirst (r .place)
+    + 2 ^ 32 * placeSecond (r .place)
 
 -- a verdict in one number: 0 is no refusal
 abbrev pub verdictCode : Verdict → ℕ
 verdictCode Pass = 0
-verdictCode (Refuse r) = codeOf r
+verdictCode (Refuse r) = refusalCode r

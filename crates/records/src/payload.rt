@@ -2,12 +2,13 @@
 ghost use mathlib.Core.Path.{_≡_};
 ghost use Prim.Native.Nat.{_≤_};
 ghost use lib.ListN.{length};
-ghost use Rattle.records.specs.Limits.{nameMax, limits};
-ghost use Rattle.records.specs.Payload.{empty, named};
+ghost use Rattle.words.specs.Splice.{splice};
+ghost use Rattle.records.specs.Limits.{nameMax, allLimits};
+ghost use Rattle.records.specs.Payload.{noEdit, noId, empty, named};
 
 // What an edit writes: a jump by this displacement, or no-op instructions.
 pub enum EditKind {
-    Jump(u32),
+    Jump(u64),
     Fill,
 }
 
@@ -44,12 +45,45 @@ pub struct Limits {
     pub file_max: usize,
     pub sections_max: usize,
     pub records_max: usize,
+    pub record_size: usize,
     pub placed_max: usize,
     pub id_min: usize,
     pub id_max: usize,
     pub name_min: usize,
     pub name_max: usize,
-    pub text_max: usize,
+}
+
+impl Edit {
+    // No edit.
+    pub fn none() -> Self
+        ensures { λ r. ⌜ r ≡ noEdit ⌝ }
+    {
+        Edit {
+            offset: 0,
+            length: 0,
+            kind: EditKind::Fill,
+        }
+    }
+}
+
+impl BuildId {
+    // No id: of length 0.
+    pub fn none() -> Self
+        ensures { λ r. ⌜ r ≡ noId ⌝ }
+    {
+        BuildId {
+            bytes: [0u8; Payload::ID_MAX],
+            length: 0,
+        }
+    }
+}
+
+// The bytes of a name over the front of the record's.
+fn fill_name(kept: &mut [u8; Payload::NAME_MAX], name: &[u8])
+    requires { ⌜ length (now name) ≤ nameMax ⌝ }
+    ensures { λ r. ⌜ now (kept .exit) ≡ splice (now (kept .entry)) 0 (now (name .entry)) ⌝ }
+{
+    words::bytes::copy(kept, 0, name);
 }
 
 impl Payload {
@@ -61,6 +95,8 @@ impl Payload {
 
     pub const RECORDS_MAX: usize = 16;
 
+    pub const RECORD_SIZE: usize = 64;
+
     pub const PLACED_MAX: usize = 8192;
 
     pub const ID_MIN: usize = 1;
@@ -70,24 +106,22 @@ impl Payload {
     pub const NAME_MIN: usize = 2;
 
     pub const NAME_MAX: usize = 128;
-    // The hypervisor's text, which the edits of a payload lie in.
-    pub const TEXT_MAX: usize = 16777216;
 
     // The limits of the code are those of the definitions.
     pub fn limits() -> Limits
-        ensures { λ r. ⌜ r ≡ limits ⌝ }
+        ensures { λ r. ⌜ r ≡ allLimits ⌝ }
     {
         Limits {
             file_min: Payload::FILE_MIN,
             file_max: Payload::FILE_MAX,
             sections_max: Payload::SECTIONS_MAX,
             records_max: Payload::RECORDS_MAX,
+            record_size: Payload::RECORD_SIZE,
             placed_max: Payload::PLACED_MAX,
             id_min: Payload::ID_MIN,
             id_max: Payload::ID_MAX,
             name_min: Payload::NAME_MIN,
             name_max: Payload::NAME_MAX,
-            text_max: Payload::TEXT_MAX,
         }
     }
 
@@ -95,15 +129,8 @@ impl Payload {
     pub fn empty() -> Self
         ensures { λ r. ⌜ r ≡ empty ⌝ }
     {
-        let no_edit = Edit {
-            offset: 0,
-            length: 0,
-            kind: EditKind::Fill,
-        };
-        let no_id = BuildId {
-            bytes: [0u8; Payload::ID_MAX],
-            length: 0,
-        };
+        let no_edit = Edit::none();
+        let no_id = BuildId::none();
         Payload {
             name: [0u8; Payload::NAME_MAX],
             name_length: 0,
@@ -123,10 +150,8 @@ impl Payload {
         requires { ⌜ length (now name) ≤ nameMax ⌝ }
         ensures { λ r. ⌜ r ≡ named (now (name .entry)) ⌝ }
     {
-        let mut kept = [0u8; Payload::NAME_MAX];
-        words::bytes::copy(&mut kept, 0, name);
         let mut one = Payload::empty();
-        one.name = kept;
+        fill_name(&mut one.name, name);
         one.name_length = name.len() as u32;
         one
     }

@@ -1,64 +1,71 @@
--- A stored field lies inside its section.
+-- A stored field lies inside the section that it is made in, and so in the slot.
 use Prim.Native.Nat.{ℕ, _+_, _≤_}
 use mathlib.Core.Path.{_≡_, refl}
-use mathlib.Core.Bool.{Bool, true, false, cond}
+use mathlib.Core.Bool.{Bool, true, false}
 use native.Mathlib.Omega.{arith}
 use borrow.Author.Tests.{leb-true}
-use lib.Dec.{leb}
-use lib.ListN.{getD}
+use Rattle.words.proofs.Tests.{both}
+use Rattle.records.specs.Limits.{placedMax}
 use Rattle.elf.specs.declared.Relocation.{Relocation}
-use Rattle.records.specs.declared.refusal.Reason.the-variants.{Invalid, OutOfRange}
-use Rattle.machine.specs.Relocations.{typeOf, widthOf, inRange}
-use Rattle.machine.specs.declared.RelocationType.{RelocationType}
-use Rattle.machine.specs.declared.RelocationType.the-variants.{Nothing, Absolute, Relative, Unknown}
+use Rattle.machine.specs.Host.{ruleOf}
+use Rattle.machine.specs.Machine.{Machine}
+use Rattle.machine.specs.declared.fields.Checked.{Checked}
+use Rattle.machine.specs.declared.fields.Checked.the-variants.{Right, Wrong}
+use Rattle.machine.specs.declared.fields.FieldType.{FieldType}
+use Rattle.machine.specs.declared.processor.RelocationType.{RelocationType}
+use Rattle.machine.specs.declared.processor.RelocationType.the-variants.{Nothing, Stores, Unknown}
 use Rattle.linking.specs.Linking.{Linking}
-use Rattle.relocation.specs.Relocating.{storedAt, withSymbol, inField, byType, fieldOf}
 use Rattle.linking.specs.Symbols.{symbolValue}
-use Rattle.relocation.specs.declared.fields.Field.the-variants.{Store, Fault}
 use Rattle.linking.specs.declared.values.SymbolValue.{SymbolValue}
 use Rattle.linking.specs.declared.values.SymbolValue.the-variants.{Value, Refused}
+use Rattle.relocation.specs.Relocating.{fieldAddress, checkedField, withSymbol, fieldOk, inField, byType, fieldOf, fieldFits, areaFits}
+use Rattle.relocation.specs.declared.fields.Area.{Area}
+use Rattle.relocation.specs.declared.fields.Field.{Field}
+use Rattle.relocation.specs.declared.fields.Field.the-variants.{Store, Skip, Fault}
 
--- where something is stored, it has the place given and the type's width
-stored-there :
-    (t : RelocationType) (place v : ℕ) {at width value : ℕ} → storedAt t place v ≡ Store at width value →
-    (at ≡ place) × (width ≡ widthOf t)
-stored-there t place v {at} {width} {value} e = by-cases (inRange t v) e
-  where
-    by-cases :
-        (b : Bool) → cond b (Store place (widthOf t) v) (Fault OutOfRange) ≡ Store at width value →
-        (at ≡ place) × (width ≡ widthOf t)
-    by-cases true e = (cc, cc)
-    by-cases false e = let z : _≡_ {A = ℕ} 0 1 = cc in absurd (omega arith)
+-- a field that is stored starts in its area and ends in it
+abbrev pub LiesIn : Area → Field → Type 0
+LiesIn area (Store at f value) = (area .start ≤ at) × (at + ruleOf f .width ≤ area .start + area .size)
+LiesIn area Skip = Unit
+LiesIn area (Fault reason) = Unit
 
-module _ (l : Linking) (target size : ℕ) (r : Relocation) {at width value : ℕ} where
-  symbol-stored :
-      (t : RelocationType) (s : SymbolValue) → withSymbol l target r t s ≡ Store at width value →
-      (at ≡ getD (l .offsets) target 0 + r .«r_offset») × (width ≡ widthOf t)
-  symbol-stored t (Value s) e = stored-there t _ _ e
-  symbol-stored t (Refused reason) e = let z : _≡_ {A = ℕ} 0 1 = cc in absurd (omega arith)
+module _ (l : Linking) (area : Area) (r : Relocation) where
+  fits-inside : (f : FieldType) → fieldOk l area r f ≡ true → r .«r_offset» + ruleOf f .width ≤ area .size
+  unfolding fieldOk
+  fits-inside f ok = leb-true _ _ (both _ _ ok .0)
 
-  in-field :
-      (t : RelocationType) → widthOf t ≤ 8 → inField l target size r t ≡ Store at width value →
-      (getD (l .offsets) target 0 ≤ at) × (at + width ≤ getD (l .offsets) target 0 + size) × (width ≤ 8)
-  in-field t narrow e = by-cases (leb (r .«r_offset» + widthOf t) size) refl e
+  module _ (f : FieldType) (fits : r .«r_offset» + ruleOf f .width ≤ area .size) where
+    checked-inside : (value : ℕ) (c : Checked) → LiesIn area (checkedField f (area .start + r .«r_offset») value c)
+    checked-inside value Right = (omega arith, omega arith)
+    checked-inside value (Wrong reason) = tt
+
+    symbol-inside : (s : SymbolValue) → LiesIn area (withSymbol l area r f s)
+    symbol-inside (Value s) =
+        let value = ruleOf f .value s (r .«r_addend») (fieldAddress l area r) in
+        checked-inside value (ruleOf f .fault value)
+    symbol-inside (Refused reason) = tt
+
+  in-field : (f : FieldType) → LiesIn area (inField l area r f)
+  in-field f = by-cases (fieldOk l area r f) refl
     where
-      by-cases :
-          (b : Bool) → leb (r .«r_offset» + widthOf t) size ≡ b →
-          cond b (withSymbol l target r t (symbolValue l (r .«r_symbol»))) (Fault Invalid) ≡ Store at width value →
-          (getD (l .offsets) target 0 ≤ at) × (at + width ≤ getD (l .offsets) target 0 + size) × (width ≤ 8)
-      by-cases true h e = omega (arith, leb-true, symbol-stored t (symbolValue l (r .«r_symbol»)) e)
-      by-cases false h e = let z : _≡_ {A = ℕ} 0 1 = cc in absurd (omega arith)
+      by-cases : (ok : Bool) → fieldOk l area r f ≡ ok → LiesIn area (inField l area r f)
+      by-cases true e = rw e (symbol-inside f (fits-inside f e) (symbolValue l (r .«r_symbol»)))
+      by-cases false e = rw e tt
 
-  by-type :
-      (t : RelocationType) → byType l target size r t ≡ Store at width value →
-      (getD (l .offsets) target 0 ≤ at) × (at + width ≤ getD (l .offsets) target 0 + size) × (width ≤ 8)
-  by-type Nothing e = let z : _≡_ {A = ℕ} 0 1 = cc in absurd (omega arith)
-  by-type Absolute e = in-field Absolute (omega arith) e
-  by-type Relative e = in-field Relative (omega arith) e
-  by-type Unknown e = let z : _≡_ {A = ℕ} 0 1 = cc in absurd (omega arith)
+  by-type : (t : RelocationType) → LiesIn area (byType l area r t)
+  by-type Nothing = tt
+  by-type (Stores f) = in-field f
+  by-type Unknown = tt
 
-  pub field-inside :
-      fieldOf l target size r ≡ Store at width value →
-      (getD (l .offsets) target 0 ≤ at) × (at + width ≤ getD (l .offsets) target 0 + size) × (width ≤ 8)
+  pub field-inside : (m : Machine) → LiesIn area (fieldOf m l area r)
   unfolding fieldOf
-  field-inside e = by-type (typeOf (r .«r_type»)) e
+  field-inside m = by-type (m .relocation (r .«r_type»))
+
+-- so it lies in the slot, where its area does
+inside-fits : (area : Area) → areaFits area → (f : Field) → LiesIn area f → fieldFits f placedMax
+inside-fits area h (Store at f value) inside = omega arith
+inside-fits area h Skip inside = omega arith
+inside-fits area h (Fault reason) inside = omega arith
+
+pub field-fits : (m : Machine) (l : Linking) (area : Area) (r : Relocation) → areaFits area → fieldFits (fieldOf m l area r) placedMax
+field-fits m l area r h = inside-fits area h (fieldOf m l area r) (field-inside l area r m)

@@ -4,7 +4,7 @@ use mathlib.Core.Bool.{cond}
 use mathlib.Core.List.{List}
 use lib.Dec.{ltb}
 use lib.ListN.{length}
-use Rattle.elf.specs.Layout.{relocationOf}
+use Rattle.elf.specs.Layout.{relocationSize, relocationOf}
 use Rattle.relocation.specs.declared.cursor.Cursor.{Cursor}
 use Rattle.relocation.specs.declared.cursor.Next.{Next}
 use Rattle.relocation.specs.declared.cursor.Next.the-variants.{Entry, End}
@@ -12,10 +12,10 @@ use Rattle.relocation.specs.declared.cursor.Next.the-variants.{Entry, En
 abbrev pub first : Cursor
 first = record { entry = 0 }
 
--- how many whole entries of 24 bytes there are
-abbrev pub entryCount : List ℕ → ℕ
-entryCount entries = length entries / 24
+-- how many whole entries there are
+abbrev pub relocationCount : List ℕ → ℕ
+relocationCount entries = length entries / relocationSize
 
 unfoldable pub nextOf : List ℕ → Cursor → Next
 nextOf entries c =
-    cond (ltb (c .entry) (entryCount entries)) (Entry (relocationOf entries (24 * c .entry)) (record { entry = c .entry + 1 })) End
+    cond (ltb (c .entry) (relocationCount entries)) (Entry (relocationOf entries (relocationSize * c .entry)) (record { entry = c .entry + 1 })) End

@@ -25,10 +25,10 @@ impl Cursor {
         ensures { λ r. ⌜ r ≡ nextOf (now (entries .entry)) self ⌝ }
     {
         let e = self.entry;
-        if entries.len() / 24 <= e {
+        if entries.len() / elf::RELOCATION_SIZE <= e {
             return Next::End;
         }
-        let r = elf::read_relocation(entries, 24 * e);
+        let r = elf::read_relocation(entries, elf::RELOCATION_SIZE * e);
         Next::Entry(r, Cursor { entry: e + 1 })
     }
 }

@@ -1,68 +1,73 @@
 // What one relocation stores, and where in the slot.
 ghost use mathlib.Core.Path.{_≡_};
-ghost use Prim.Native.Nat.{_+_, _≤_, _<_};
-ghost use lib.ListN.{length, getD};
-ghost use Rattle.records.specs.Limits.{placedMax};
+ghost use Rattle.machine.specs.Host.{hostMachine};
+ghost use Rattle.linking.specs.Kept.{Kept};
 ghost use Rattle.linking.specs.Linking.{Linking};
-ghost use Rattle.relocation.specs.Relocating.{storedAt, fieldOf};
-ghost use Rattle.linking.specs.Resolved.{Given};
+ghost use Rattle.relocation.specs.Relocating.{storedField, fieldOf, areaFits, Given};
 use elf::Relocation;
-use linking::resolved::Resolved;
-use linking::resolved::{self};
+use linking::kept;
 use linking::values::SymbolValue;
-use machine::RelocationType;
+use machine::fields::Checked;
+use machine::fields::FieldType;
+use machine::host::Host;
+use machine::processor::RelocationType;
 use records::refusal::Reason;
 
-// A field of the slot: its offset, its width and the value; nothing to store; or why it is refused.
+// A relocation section's number, and where the section that its relocations are made in stands in the slot, with its size.
+pub struct Area {
+    pub section: u16,
+    pub start: u64,
+    pub size: u64,
+}
+
+// A field of the slot: its offset, its type and the value; nothing to store; or why it is refused.
 pub enum Field {
-    Store(u64, u64, u64),
+    Store(u64, FieldType, u64),
     Skip,
     Fault(Reason),
 }
 
-// The field at `at` of the slot with a value that is known, where it is in range.
-fn store(t: RelocationType, at: u64, value: u64) -> Field
-    ensures { λ r. ⌜ r ≡ storedAt t at value ⌝ }
+// The field at `at` of the slot with a value that is known, where it can take it.
+fn stored_field(f: FieldType, at: u64, value: u64) -> Field
+    ensures { λ r. ⌜ r ≡ storedField f at value ⌝ }
 {
-    if !machine::in_range(t, value) {
-        return Field::Fault(Reason::OutOfRange);
+    match f.check(value) {
+        Checked::Right => Field::Store(at, f, value),
+        Checked::Wrong(reason) => Field::Fault(reason),
     }
-    Field::Store(at, machine::width(t), value)
 }
 
-// One relocation, made in section `target` of `size` bytes: type, field, symbol, range.
+// One relocation: type, field, symbol, range.
 pub fn field_of(
-    base: u64,
-    offsets: &[u64],
-    values: &[u64; Resolved::SYMBOLS_MAX],
-    faults: &[u64; Resolved::SYMBOLS_MAX],
-    target: usize,
-    size: u64,
+    cells: &mut [u64],
+    strings: &[u8],
+    list: &[u8],
+    host: Host,
+    area: Area,
     r: Relocation,
 ) -> Field
-    requires { ⌜ (target < length (now offsets)) × (getD (now offsets) target 0 + size ≤ placedMax) × ((l : Linking) × Given l base (now offsets) (now values) (now faults)) ⌝ }
-    ensures { λ f. ⌜ ((l : Linking) → Given l base (now (offsets .entry)) (now (values .entry)) (now (faults .entry)) → f ≡ fieldOf l target size r) ⌝ }
+    requires { ⌜ areaFits area × ((l : Linking) × Given l host (now cells) (now strings) (now list)) ⌝ }
+    ensures { λ f. ⌜ ((l : Linking) → Given l host (now (cells .entry)) (now (strings .entry)) (now (list .entry)) →
+        (f ≡ fieldOf (hostMachine host) l area r) × Kept l (now (cells .exit))) ⌝ }
 {
-    let t = machine::relocation_type(r.r_type);
-    if let RelocationType::Nothing = t {
-        return Field::Skip;
-    }
-    if let RelocationType::Unknown = t {
-        return Field::Fault(Reason::Unsupported);
-    }
-    if !words::address::lies_within(r.r_offset, machine::width(t), size) {
+    let processor = host.processor;
+    let asked = processor.relocation_type(r.r_type);
+    let f = match asked {
+        RelocationType::Nothing => return Field::Skip,
+        RelocationType::Unknown => return Field::Fault(Reason::Unsupported),
+        RelocationType::Stores(f) => f,
+    };
+    if !words::address::lies_within(r.r_offset, f.width(), area.size) {
         return Field::Fault(Reason::Invalid);
     }
-    let start = offsets[target];
-    match resolved::resolved_value(values, faults, r.r_symbol) {
+    let place = words::address::add(words::address::add(host.slot, area.start), r.r_offset);
+    if !f.is_aligned(place) {
+        return Field::Fault(Reason::Invalid);
+    }
+    match kept::value_of(cells, strings, list, r.r_symbol) {
         SymbolValue::Refused(reason) => Field::Fault(reason),
         SymbolValue::Value(s) => {
-            let place = words::address::add(words::address::add(base, start), r.r_offset);
-            store(
-                t,
-                start + r.r_offset,
-                machine::value(t, s, r.r_addend, place),
-            )
+            stored_field(f, area.start + r.r_offset, f.value(s, r.r_addend, place))
         }
     }
 }

@@ -1,27 +1,44 @@
 // All relocations of a payload, by section index and then entry, over the slot's bytes.
 ghost use mathlib.Core.Path.{_≡_};
 ghost use mathlib.Core.Bool.{true};
-ghost use Prim.Native.Nat.{_+_, _≤_, _<_};
-ghost use lib.ListN.{length, getD};
+ghost use Prim.Native.Nat.{_≤_, _<_};
+ghost use lib.ListN.{length};
 ghost use Rattle.records.specs.Limits.{sectionsMax, placedMax, fileMax};
+ghost use Rattle.machine.specs.Host.{hostMachine};
 ghost use Rattle.object.specs.Kinds.{isKind};
+ghost use Rattle.object.specs.Sections.{sectionIn};
 ghost use Rattle.object.specs.declared.kinds.Kind.the-variants.{Relocations};
+ghost use Rattle.placement.specs.Placement.{layoutOf};
+ghost use Rattle.linking.specs.Kept.{Kept};
 ghost use Rattle.linking.specs.Linking.{Linking};
-ghost use Rattle.relocation.specs.Entries.{entryCount};
-ghost use Rattle.relocation.specs.Relocating.{Linkable, LinkableAt, linkingOf, relocated, fieldFits, storeIn, isRelocating, relocateEntries, relocateSection, relocateAll};
-ghost use Rattle.linking.specs.Resolved.{resolved, Given};
+ghost use Rattle.relocation.specs.Entries.{relocationCount};
+ghost use Rattle.relocation.specs.Relocating.{
+  Linkable,
+  Given,
+  areaFits,
+  linkingOf,
+  relocated,
+  fieldFits,
+  storeIn,
+  isRelocating,
+  areaOf,
+  relocateEntries,
+  relocateAll,
+};
 use super::cursor::Cursor;
 use super::cursor::Next;
+use super::fields::Area;
 use super::fields::Field;
 use super::fields::{self};
-use linking::resolved::Resolved;
-use linking::resolved::{self};
+use linking::kept;
+use machine::host::Host;
 use object::kinds::Kind;
 use object::sections::SectionEntry;
 use object::sections::{self};
+use payload::read::Reading;
+use placement::Layout;
 use records::payload::Payload;
 use records::refusal::Place;
-use records::refusal::Refusal;
 use records::refusal::Verdict;
 
 // A field stored into the slot's bytes.
@@ -29,25 +46,26 @@ fn store_field(image: &mut [u8], f: Field)
     requires { ⌜ fieldFits f (length (now image)) ⌝ }
     ensures { λ r. ⌜ now (image .exit) ≡ storeIn (now (image .entry)) f ⌝ }
 {
-    if let Field::Store(at, width, value) = f {
-        words::le::write(image, at as usize, width as usize, value);
+    if let Field::Store(at, t, value) = f {
+        t.store(image, at as usize, value);
     }
 }
 
-// The entries of relocation section `section`, made in section `target` of `size` bytes, in order.
+// The entries of a relocation section, in order.
 fn relocate_entries(
     image: &mut [u8],
-    base: u64,
-    offsets: &[u64],
-    values: &[u64; Resolved::SYMBOLS_MAX],
-    faults: &[u64; Resolved::SYMBOLS_MAX],
+    cells: &mut [u64],
     entries: &[u8],
-    section: u16,
-    target: usize,
-    size: u64,
+    strings: &[u8],
+    list: &[u8],
+    host: Host,
+    area: Area,
 ) -> Verdict
-    requires { ⌜ (length (now image) ≡ placedMax) × (target < length (now offsets)) × (getD (now offsets) target 0 + size ≤ placedMax) × (length (now entries) ≤ fileMax) × ((l : Linking) × Given l base (now offsets) (now values) (now faults)) ⌝ }
-    ensures { λ r. ⌜ ((l : Linking) → Given l base (now (offsets .entry)) (now (values .entry)) (now (faults .entry)) → relocated r (now (image .exit)) ≡ relocateEntries l target size (now (entries .entry)) section 0 (entryCount (now (entries .entry))) (now (image .entry))) ⌝ }
+    requires { ⌜ (length (now image) ≡ placedMax) × areaFits area × (length (now entries) ≤ fileMax) ⌝ }
+    requires { ⌜ ((l : Linking) × Given l host (now cells) (now strings) (now list)) ⌝ }
+    ensures { λ r. ⌜ ((l : Linking) → Given l host (now (cells .entry)) (now (strings .entry)) (now (list .entry)) →
+        (relocated r (now (image .exit)) ≡ relocateEntries (hostMachine host) l area (now (entries .entry)) 0
+        (relocationCount (now (entries .entry))) (now (image .entry))) × Kept l (now (cells .exit))) ⌝ }
 {
     let mut cursor = Cursor::start();
     loop {
@@ -55,13 +73,10 @@ fn relocate_entries(
         let Next::Entry(r, next) = cursor.next(entries) else {
             return Verdict::Pass;
         };
-        let f = fields::field_of(base, offsets, values, faults, target, size, r);
+        let f = fields::field_of(cells, strings, list, host, area, r);
         if let Field::Fault(reason) = f {
             let number = e as u16;
-            return Verdict::Refuse(Refusal {
-                reason,
-                place: Place::Relocation(section, number),
-            });
+            return Verdict::refused(reason, Place::Entry(area.section, number));
         }
         store_field(image, f);
         cursor = next;
@@ -87,95 +102,65 @@ fn is_relocating(table: [SectionEntry; Payload::SECTIONS_MAX], s: SectionEntry) 
     true
 }
 
-// The relocations of section i, where it is a relocation section whose target is not ignored.
-fn relocate_section<'a>(
-    image: &mut [u8],
-    file: &[u8],
-    table: [SectionEntry; Payload::SECTIONS_MAX],
-    base: u64,
-    offsets: &[u64],
-    values: &'a [u64; Resolved::SYMBOLS_MAX],
-    faults: &'a [u64; Resolved::SYMBOLS_MAX],
-    i: usize,
-) -> Verdict
-    requires { ⌜ LinkableAt (length (now image)) (now file) table (now offsets) i × ((l : Linking) × Given l base (now offsets) (now values) (now faults)) ⌝ }
-    ensures { λ r. ⌜ ((l : Linking) → Given l base (now (offsets .entry)) (now (values .entry)) (now (faults .entry)) → relocated r (now (image .exit)) ≡ relocateSection l (now (file .entry)) table i (now (image .entry))) ⌝ }
+// Where the target of relocation section i stands in the slot, and its size.
+fn area_of(reading: Reading, layout: Layout, i: usize) -> Area
+    requires { ⌜ (reading .count ≤ sectionsMax) × (i < reading .count) ⌝ }
+    requires { ⌜ sectionIn (reading .sections) i .header .«sh_info» < reading .count ⌝ }
+    requires { ⌜ layout ≡ layoutOf (reading .sections) (reading .count) ⌝ }
+    ensures { λ r. ⌜ r ≡ areaOf (reading .sections) i ⌝ }
 {
+    let table = reading.sections;
     let one = table[i];
-    if !is_relocating(table, one) {
-        return Verdict::Pass;
-    }
     let h = one.header;
     let target = h.sh_info as usize;
     let made_in = table[target];
     let target_header = made_in.header;
-    let entries = sections::contents_of(file, h);
-    relocate_entries(
-        image,
-        base,
-        offsets,
-        values,
-        faults,
-        entries,
-        i as u16,
-        target,
-        target_header.sh_size,
-    )
+    let section = i as u16;
+    let start = layout.offsets[target];
+    Area {
+        section,
+        start,
+        size: target_header.sh_size,
+    }
 }
 
-// The payload's symbols, resolved. `symbols` is the symbol table's index.
-fn resolve_symbols(
+// All relocations, by section index, up to the first that is refused.
+pub fn relocate(
+    image: &mut [u8],
     file: &[u8],
-    table: [SectionEntry; Payload::SECTIONS_MAX],
-    count: usize,
-    symbols: usize,
-    base: u64,
-    offsets: &[u64],
-    limits: &[u64],
     list: &[u8],
-) -> Resolved
-    requires { ⌜ Linkable placedMax (now file) table count symbols (now offsets) (now limits) ⌝ }
-    ensures { λ r. ⌜ r ≡ resolved (linkingOf base (now (file .entry)) table count symbols (now (offsets .entry)) (now (limits .entry)) (now (list .entry))) ⌝ }
+    host: Host,
+    reading: Reading,
+    layout: Layout,
+) -> Verdict
+    requires { ⌜ Linkable (length (now image)) (now file) reading ×
+        (layout ≡ layoutOf (reading .sections) (reading .count)) ⌝ }
+    ensures { λ r. ⌜ relocated r (now (image .exit)) ≡ relocateAll (hostMachine host)
+        (linkingOf host (now (file .entry)) reading (now (list .entry))) (now (file .entry)) (now (image .entry)) ⌝ }
 {
+    let table = reading.sections;
+    let count = reading.count;
+    let symbols = reading.symbols;
     let symbol_entry = table[symbols];
     let symbol_header = symbol_entry.header;
     let link = symbol_header.sh_link as usize;
     let string_entry = table[link];
-    let symbol_table = sections::contents_of(file, symbol_header);
     let strings = sections::contents_of(file, string_entry.header);
-    resolved::resolve_all(base, count, offsets, limits, symbol_table, strings, list)
-}
-
-// All relocations, by section index, up to the first that is refused. `symbols` is the symbol table's index.
-pub fn relocate(
-    image: &mut [u8],
-    file: &[u8],
-    table: [SectionEntry; Payload::SECTIONS_MAX],
-    count: usize,
-    symbols: usize,
-    base: u64,
-    offsets: &[u64],
-    limits: &[u64],
-    list: &[u8],
-) -> Verdict
-    requires { ⌜ Linkable (length (now image)) (now file) table count symbols (now offsets) (now limits) ⌝ }
-    ensures { λ r. ⌜ relocated r (now (image .exit)) ≡ relocateAll (linkingOf base (now (file .entry)) table count symbols (now (offsets .entry)) (now (limits .entry)) (now (list .entry))) (now (file .entry)) table count (now (image .entry)) ⌝ }
-{
-    let resolved = resolve_symbols(file, table, count, symbols, base, offsets, limits, list);
+    let mut cells = kept::read_symbols(
+        host.slot,
+        layout,
+        sections::contents_of(file, symbol_header),
+    );
     let mut i = 0;
     while i < count {
-        let v = relocate_section(
-            image,
-            file,
-            table,
-            base,
-            offsets,
-            &resolved.values,
-            &resolved.faults,
-            i,
-        );
-        if let Verdict::Refuse(_) = v {
-            return v;
+        let one = table[i];
+        if is_relocating(table, one) {
+            let area = area_of(reading, layout, i);
+            let entries = sections::contents_of(file, one.header);
+            let v = relocate_entries(image, &mut cells, entries, strings, list, host, area);
+            if let Verdict::Refuse(_) = v {
+                return v;
+            }
         }
         i += 1;
     }

@@ -28,9 +28,9 @@ use Rattle.symbols.specs.SymbolList.{
   entryIf,
   entriesFrom,
   lookupFrom,
-  startFrom,
+  entryStart,
   Listed,
-  entryCount,
+  listCount,
   valid,
   lookup,
 }
@@ -169,7 +169,7 @@ module _ (s name : List ℕ) where
       {a : ℕ} (n at : ℕ) (t e : Bool) (rest : Found) → equal (nameAt s at) name ≡ e →
       (rest ≡ Address a → Listed s n (nextAt s at) name a) →
       cond t (cond e (Address (addressAt s at)) rest) Nothing ≡ Address a → Listed s (suc n) at name a
-  unfolding startFrom
+  unfolding entryStart
   step-found n at false e rest same next h = absurd (nothing h)
   step-found n at true true rest same next h =
       record { number = 0; counted = omega arith; named = equal-true _ _ same; addressed = cc }
@@ -186,8 +186,8 @@ module _ (s name : List ℕ) where
   -- a name that the entries hold is greater than the name before them
   later :
       (n at : ℕ) (last : List ℕ) (k : ℕ) → entriesFrom s n at last ≡ true → k < n →
-      less last (nameAt s (startFrom s at k)) ≡ true
-  unfolding entriesFrom startFrom
+      less last (nameAt s (entryStart s at k)) ≡ true
+  unfolding entriesFrom entryStart
   later zero at last k h g = absurd (omega arith)
   later (suc n) at last zero h g = rise s at last n h .1
   later (suc n) at last (suc k) h g =
@@ -196,9 +196,9 @@ module _ (s name : List ℕ) where
 
   -- the name of one of the entries is found, and no earlier entry is taken for it
   listed-found :
-      (n at : ℕ) (last : List ℕ) (k : ℕ) → entriesFrom s n at last ≡ true → k < n → nameAt s (startFrom s at k) ≡ name →
-      lookupFrom s name n at ≡ Address (addressAt s (startFrom s at k))
-  unfolding lookupFrom startFrom
+      (n at : ℕ) (last : List ℕ) (k : ℕ) → entriesFrom s n at last ≡ true → k < n → nameAt s (entryStart s at k) ≡ name →
+      lookupFrom s name n at ≡ Address (addressAt s (entryStart s at k))
+  unfolding lookupFrom entryStart
   listed-found zero at last k h g e = absurd (omega arith)
   listed-found (suc n) at last zero h g e = rw (rise s at last n h .0, e, equal-same name)
   listed-found (suc n) at last (suc k) h g e =
@@ -208,10 +208,10 @@ module _ (s name : List ℕ) where
 
   -- in a valid list, lookup answers an address exactly where an entry has this name and this address
   pub lookup-listed :
-      (a : ℕ) → valid s ≡ true → (lookup s name ≡ Address a) ↔ Listed s (entryCount s) 7 name a
+      (a : ℕ) → valid s ≡ true → (lookup s name ≡ Address a) ↔ Listed s (listCount s) 7 name a
   unfolding valid lookup
   lookup-listed a h =
-      let v = ends (leb 7 (length s)) _ _ (entriesFrom s (entryCount s) 7 []) h in (
-        λ found. found-listed (entryCount s) 7 (rw (v .0) at found),
-        λ l. rw (v .0) (listed-found (entryCount s) 7 [] (l .number) (v .1) (l .counted) (l .named) ∙ ap Address (l .addressed)),
+      let v = ends (leb 7 (length s)) _ _ (entriesFrom s (listCount s) 7 []) h in (
+        λ found. found-listed (listCount s) 7 (rw (v .0) at found),
+        λ l. rw (v .0) (listed-found (listCount s) 7 [] (l .number) (v .1) (l .counted) (l .named) ∙ ap Address (l .addressed)),
       )

@@ -32,9 +32,13 @@ nextAt s at = at + 9 + nameLengthAt s at
 unfoldable pub wholeAt : List ℕ → ℕ → Bool
 wholeAt s at = leb (at + 9) (length s) && leb (nextAt s at) (length s)
 
+-- "(1 to 127)"
+abbrev pub listedNameMax : ℕ
+listedNameMax = 127
+
 -- "a 1-byte name length (1 to 127), the name without zero bytes"
 unfoldable pub entryAt : List ℕ → ℕ → Bool
-entryAt s at = wholeAt s at && leb 1 (nameLengthAt s at) && leb (nameLengthAt s at) 127 && not (hasZero (nameAt s at))
+entryAt s at = wholeAt s at && leb 1 (nameLengthAt s at) && leb (nameLengthAt s at) listedNameMax && not (hasZero (nameAt s at))
 
 -- what reading an entry answers: its name's length, where the test holds
 unfoldable pub entryIf : Bool → List ℕ → ℕ → Entry
@@ -47,8 +51,8 @@ entriesFrom s zero at last = eqb at (length s)
 entriesFrom s (suc n) at last = entryAt s at && less last (nameAt s at) && entriesFrom s n (nextAt s at) (nameAt s at)
 
 -- "a 2-byte entry count"
-abbrev pub entryCount : List ℕ → ℕ
-entryCount s = beAt 2 s 5
+abbrev pub listCount : List ℕ → ℕ
+listCount s = beAt 2 s 5
 
 -- "a 4-byte big-endian count of the bytes that follow, version byte 1, a 2-byte entry count, then per entry .."
 unfoldable pub valid : List ℕ → Bool
@@ -56,7 +60,7 @@ valid s =
     leb 7 (length s)
     && eqb (beAt 4 s 0 + 4) (length s)
     && eqb (getD s 4 0) 1
-    && entriesFrom s (entryCount s) 7 []
+    && entriesFrom s (listCount s) 7 []
 
 -- the address of the first of n whole entries from at on that has this name
 unfoldable pub lookupFrom : List ℕ → List ℕ → ℕ → ℕ → Found
@@ -68,18 +72,18 @@ lookupFrom s name (suc n) at =
 
 -- "looked up by name in the list": its address, or it isn't there. Of bytes that are no valid list, the whole entries at the front are searched.
 unfoldable pub lookup : List ℕ → List ℕ → Found
-lookup s name = cond (leb 7 (length s)) (lookupFrom s name (entryCount s) 7) Nothing
+lookup s name = cond (leb 7 (length s)) (lookupFrom s name (listCount s) 7) Nothing
 
 -- ---- the entries as a table, which the law `lookup-listed` compares lookup with
 
 -- where the entry that stands k entries after the one at at begins
-unfoldable pub startFrom : List ℕ → ℕ → ℕ → ℕ
-startFrom s at zero = at
-startFrom s at (suc k) = startFrom s (nextAt s at) k
+unfoldable pub entryStart : List ℕ → ℕ → ℕ → ℕ
+entryStart s at zero = at
+entryStart s at (suc k) = entryStart s (nextAt s at) k
 
 -- one of the n entries from at on has this name and this address
 pub record Listed (s : List ℕ) (n at : ℕ) (name : List ℕ) (address : ℕ) : Type 0 where
   pub number : ℕ
   pub counted : number < n
-  pub named : nameAt s (startFrom s at number) ≡ name
-  pub addressed : addressAt s (startFrom s at number) ≡ address
+  pub named : nameAt s (entryStart s at number) ≡ name
+  pub addressed : addressAt s (entryStart s at number) ≡ address

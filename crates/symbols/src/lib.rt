@@ -2,13 +2,11 @@
 ghost use mathlib.Core.Path.{_≡_};
 ghost use mathlib.Core.List.{[]};
 ghost use Rattle.records.specs.Verdict.{must};
-ghost use Rattle.records.specs.declared.refusal.Reason.the-variants.{Invalid};
 ghost use Rattle.records.specs.declared.refusal.Place.the-variants.{Nowhere};
 ghost use Rattle.words.specs.Order.{less};
 ghost use Rattle.symbols.specs.SymbolList.{wholeAt, entryAt, entryIf, entriesFrom, lookupFrom, valid, lookup};
 use records::refusal::Place;
 use records::refusal::Reason;
-use records::refusal::Refusal;
 use records::refusal::Verdict;
 use words::bytes;
 
@@ -17,6 +15,9 @@ pub enum Found {
     Address(u64),
     Nothing,
 }
+
+// The longest name of a list.
+pub const NAME_MAX: usize = 127;
 
 // An entry with a name of this many bytes, or no entry.
 enum Entry {
@@ -51,7 +52,7 @@ fn entry_at(list: &[u8], at: usize) -> Entry
     if name_length < 1 {
         return Entry::Broken;
     }
-    if 127 < name_length {
+    if NAME_MAX < name_length {
         return Entry::Broken;
     }
     let start = at + 9;
@@ -117,15 +118,12 @@ pub fn is_valid(list: &[u8]) -> bool
 
 // The same as a verdict: a list that is not valid is refused with 22, nowhere.
 pub fn check(list: &[u8]) -> Verdict
-    ensures { λ r. ⌜ r ≡ must (valid (now (list .entry))) Invalid Nowhere ⌝ }
+    ensures { λ r. ⌜ r ≡ must (valid (now (list .entry))) 22 Nowhere ⌝ }
 {
     if is_valid(list) {
         return Verdict::Pass;
     }
-    Verdict::Refuse(Refusal {
-        reason: Reason::Invalid,
-        place: Place::Nowhere,
-    })
+    Verdict::refused(Reason::Invalid, Place::Nowhere)
 }
 
 // The address that the list gives to `name`: at most one pass.

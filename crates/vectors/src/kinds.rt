@@ -17,12 +17,12 @@ fn refusals() {
     refusal(
         b"34 relocation section 5 entry 7",
         Reason::OutOfRange,
-        Place::Relocation(5, 7),
+        Place::Entry(5, 7),
     );
     refusal(
         b"3 relocation section 65535 entry 65535",
         Reason::NotListed,
-        Place::Relocation(65535, 65535),
+        Place::Entry(65535, 65535),
     );
     refusal(b"22 record 15", Reason::Invalid, Place::Record(15));
 }

@@ -12,20 +12,20 @@ use lib.Signed.{mag, leZ, leZ-yes, _≤ℤ_}
 use lib.Dec.{T, ltb, leb·suc-suc}
 use lib.Pow.{pow-pos, pow-mono, pow-add}
 use lib.Arith.{comp-comp}
-use Rattle.words.specs.Address.{sum, difference, signed, stored, fits}
+use Rattle.words.specs.Address.{wrappingSum, wrappingDifference, signed, stored, fits}
 
 -- ---- addresses
 
-pub sum-below : (a b : ℕ) → sum a b < 2 ^ 64
-unfolding sum
+pub sum-below : (a b : ℕ) → wrappingSum a b < 2 ^ 64
+unfolding wrappingSum
 sum-below a b = omega arith
 
-pub difference-below : (a b : ℕ) → difference a b < 2 ^ 64
-unfolding difference
+pub difference-below : (a b : ℕ) → wrappingDifference a b < 2 ^ 64
+unfolding wrappingDifference
 difference-below a b = omega arith
 
-pub difference-sum : (a b : ℕ) → a < 2 ^ 64 → b ≤ 2 ^ 64 → difference (sum a b) b ≡ a
-unfolding sum difference
+pub difference-sum : (a b : ℕ) → a < 2 ^ 64 → b ≤ 2 ^ 64 → wrappingDifference (wrappingSum a b) b ≡ a
+unfolding wrappingSum wrappingDifference
 difference-sum a b ha hb = omega arith
 
 -- ---- the range of a signed width

@@ -5,3 +5,4 @@ pub mod Order
 pub mod Scan
 pub mod Splice
 pub mod Tests
+pub mod Written

@@ -6,11 +6,11 @@ use lib.Signed.{leZ}
 use lib.Dec.{ltb}
 
 -- document 01: "Sums and differences of addresses are taken modulo 2^64"
-unfoldable pub sum : ℕ → ℕ → ℕ
-sum a b = (a + b) % 2 ^ 64
+unfoldable pub wrappingSum : ℕ → ℕ → ℕ
+wrappingSum a b = (a + b) % 2 ^ 64
 
-unfoldable pub difference : ℕ → ℕ → ℕ
-difference a b = (a + (2 ^ 64 - b)) % 2 ^ 64
+unfoldable pub wrappingDifference : ℕ → ℕ → ℕ
+wrappingDifference a b = (a + (2 ^ 64 - b)) % 2 ^ 64
 
 -- x of w bits read as signed: from 2^(w-1) on it is x - 2^w
 unfoldable pub signed : ℕ → ℕ → ℤ

@@ -2,18 +2,18 @@
 ghost use mathlib.Core.Path.{_≡_};
 ghost use Prim.Native.Nat.{_+_, _≤_};
 ghost use lib.Dec.{leb};
-ghost use Rattle.words.specs.Address.{sum, difference, signed, fits};
+ghost use Rattle.words.specs.Address.{wrappingSum, wrappingDifference, signed, fits};
 
 // a + b modulo 2^64
 pub fn add(a: u64, b: u64) -> u64
-    ensures { λ r. ⌜ r ≡ sum a b ⌝ }
+    ensures { λ r. ⌜ r ≡ wrappingSum a b ⌝ }
 {
     std::num::wrapping_add_u64(a, b)
 }
 
 // a - b modulo 2^64
 pub fn subtract(a: u64, b: u64) -> u64
-    ensures { λ r. ⌜ r ≡ difference a b ⌝ }
+    ensures { λ r. ⌜ r ≡ wrappingDifference a b ⌝ }
 {
     std::num::wrapping_sub_u64(a, b)
 }

@@ -17,7 +17,15 @@ returns c =
     let a = begin .before .before .before .args in
     second .write-id2 .ensures .0
     ∙ rw (first .write-id .ensures .0, fourth .write4 .ensures, third .write3 .ensures, next .write2 .ensures, begin .write .ensures)
-    (summary-laid (a .buffer .now) (a .placed) (a .count) (a .id) (a .dependency) (omega arith) (first .write-id .ensures .1) (second .write-id2 .ensures .1))
+    (summary-laid
+    (a .buffer .now)
+    (a .placed)
+    (a .count)
+    (a .id)
+    (a .dependency)
+    (omega arith)
+    (first .write-id .ensures .1)
+    (second .write-id2 .ensures .1))
 
 pub write-summary-spec : {M : Type 1} → statement M
 write-summary-spec =
@@ -30,6 +38,7 @@ write-summary-spec =
     (λ c. search needs)
     (λ c κs. search needs)
     (λ c κs. search needs)
+    (λ c. search needs)
     (λ c κs. search needs)
     (λ c. search needs)
     returns)

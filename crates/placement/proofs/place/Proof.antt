@@ -6,19 +6,20 @@ use native.Mathlib.Omega.{arith}
 use borrow.Author.Needs.{needs}
 use lib.ListN.{length}
 use Rattle.object.specs.Sections.{sectionIn, noEntry}
+use Rattle.object.specs.declared.sections.SectionEntry.{SectionEntry}
 use Rattle.placement.specs.declared.Step.the-variants.{At}
 use Rattle.placement.specs.Placement.{stepOf}
-use Rattle.placement.proofs.PlacementLaws.{limit-inside, contents-inside, laid}
+use Rattle.placement.proofs.PlacementLaws.{bound-inside, contents-inside, laid}
 use Rattle.placement.proofs.Placing.{step-at, Placing, image-length, placing-begin, placing-turn, placing-refuses, placing-ends}
 use Rattle.placement.proofs.place.Statement.{statement}
 use Rattle.placement.proofs.place.Tie as tie
 
 abbrev Inv-loop : tie.InvT-loop
-Inv-loop file count table offsets₀ limits₀ image₀ end₀ i₀ offsets limits image end i =
-    Placing file table count offsets limits image end i
+Inv-loop file count table offsets₀ bounds₀ image₀ end₀ i₀ offsets bounds image end i =
+    Placing file table count offsets bounds image end i
 
 abbrev μ-loop : tie.MeasureT-loop
-μ-loop file count table offsets₀ limits₀ image₀ end₀ i₀ offsets limits image end i = count - i
+μ-loop file count table offsets₀ bounds₀ image₀ end₀ i₀ offsets bounds image end i = count - i
 
 loop-holds : tie.Need-loop-holds Inv-loop μ-loop
 loop-holds c = placing-begin _ _ _
@@ -26,53 +27,56 @@ loop-holds c = placing-begin _ _ _
 returns : tie.Need-returns Inv-loop μ-loop
 unfolding noEntry
 returns c =
-    let turn = c .before .before .before in
-    let loop = turn .before .before .before .loop in
+    let step = c .before .before .before in
+    let turn = step .before .before in
     c .refuse-at .ensures
-    ∙ placing-refuses (loop .inv)
-    (turn .before .before .loop-test .taken)
-    (sym (turn .place-one .ensures) ∙ c .before .enum-told .given .1)
+    ∙ placing-refuses (turn .before .loop .inv) (turn .loop-test .taken) (sym (step .place-one .ensures) ∙ c .before .enum-told .given .1)
 
--- where the section goes
+-- ---- a section that has room: the turn's start, the section, and where it goes
+
+abbrev turn : tie.After-known-told Inv-loop μ-loop → tie.In-loop Inv-loop μ-loop
+turn c = c .before .before .before .before .before
+
+abbrev section : tie.After-known-told Inv-loop μ-loop → SectionEntry
+section c = sectionIn (turn c .before .before .before .args .t2) (turn c .before .loop .i)
+
 steps :
     (c : tie.After-known-told Inv-loop μ-loop) →
-    let loop = c .before .before .before .before .before .before .loop in
-    let table = c .before .before .before .before .before .before .before .before .args .t2 in
-    stepOf (loop .end) (sectionIn table (loop .i)) ≡ At (c .before .start .given .0 .0) (c .before .start .given .0 .1 .0)
+    stepOf (turn c .before .loop .end) (section c) ≡ At (c .before .start .given .0 .0) (c .before .start .given .0 .1 .0)
 unfolding noEntry
 steps c = sym (c .before .before .before .place-one .ensures) ∙ c .before .start .given .1
 
 slice-aggregate-copy : tie.Need-slice-aggregate-copy Inv-loop μ-loop
-slice-aggregate-copy c = sym (image-length (c .before .before .before .before .before .before .before .before .before .before .loop .inv))
+slice-aggregate-copy c =
+    let found = c .before .before .before .before in
+    sym (image-length (turn found .before .loop .inv))
 
 copy-requires : tie.Need-copy-requires Inv-loop μ-loop
 unfolding noEntry
 copy-requires c κs =
-    let known = c .before .before .before .before .before in
-    let loop = known .before .before .before .before .before .before .loop in
-    let args = known .before .before .before .before .before .before .before .before .args in
-    let one = sectionIn (args .t2) (loop .i) in
-    let fits = step-at (loop .end) one (steps known) in
-    let copied = sym (c .before .before .before .before .has-contents .ensures) ∙ c .before .before .before .if1 .taken in
+    let tested = c .before .before .before in
+    let found = tested .before .before in
+    let loop = turn found .before .loop in
+    let file = turn found .before .before .before .args .file .now in
+    let fits = step-at (loop .end) (section found) (steps found) in
+    let copied = sym (tested .before .has-contents .ensures) ∙ tested .if1 .taken in
     omega (
       arith,
-      contents-inside (args .file .now) (loop .end) one copied,
+      contents-inside file (loop .end) (section found) copied,
       ap length (c .contents-of .ensures),
       image-length (loop .inv),
     )
 
-limit-for-requires : tie.Need-limit-for-requires Inv-loop μ-loop
+bound-for-requires : tie.Need-bound-for-requires Inv-loop μ-loop
 unfolding noEntry
-limit-for-requires c κs =
-    limit-inside _ _ (step-at _ _ (steps (c .before .before)) .room)
+bound-for-requires c κs = bound-inside _ _ (step-at _ _ (steps (c .before .before)) .room)
 
--- the section's bytes are laid where it goes
+-- its bytes are laid where it goes
 lays :
     (c : tie.Joined1 Inv-loop μ-loop) →
-    let start = c .before .before .before .start .given .0 .0 in
-    let loop = c .before .before .before .before .before .before .before .before .loop in
-    let args = c .before .before .before .before .before .before .before .before .before .before .args in
-    c .if1 .image ≡ laid (args .file .now) (loop .image) start (sectionIn (args .t2) (loop .i))
+    let found = c .before .before in
+    let file = turn found .before .before .before .args .file .now in
+    c .if1 .image ≡ laid file (turn found .before .loop .image) (found .before .start .given .0 .0) (section found)
 unfolding noEntry
 lays c =
     ⊎-elim
@@ -84,10 +88,11 @@ loop-again : tie.Need-loop-again Inv-loop μ-loop
 unfolding noEntry
 loop-again c =
     let joined = c .before in
-    let known = joined .before .before in
-    let turn = known .before .before .before .before .before in
-    rw (lays joined, c .limit-for .ensures)
-    (placing-turn (turn .before .loop .inv) (turn .loop-test .taken) (omega arith) (steps known))
+    let found = joined .before .before in
+    rw (lays joined, c .bound-for .ensures)
+    (placing-turn (turn found .before .loop .inv) (turn found .loop-test .taken) (omega arith) (steps found))
+
+-- ---- the end
 
 returns-2 : tie.Need-returns-2 Inv-loop μ-loop
 returns-2 c = placing-ends (c .before .loop .inv) (c .loop-test .left)
@@ -113,7 +118,7 @@ place-spec =
     copy-requires
     (λ c. omega arith)
     (λ c. omega arith)
-    limit-for-requires
+    bound-for-requires
     (λ c. omega arith)
     (λ c. omega arith)
     (λ c. omega arith)

@@ -20,8 +20,8 @@ returns-2 c = simp (lt-leb _ _ (c .if2 .taken), and-false)
 returns-3 : tie.Need-returns-3
 unfolding rangesOk
 returns-3 c =
-    let a = c .before .before .before .args in
-    let past : 2 ^ 64 < a .text + a .size = omega arith in
+    let host = c .before .before .before .before .before .before .before .args .host in
+    let past : 2 ^ 64 < host .text + host .«text_length» = omega arith in
     simp (lt-leb _ _ past, and-false)
 
 returns-4 : tie.Need-returns-4
@@ -31,21 +31,24 @@ returns-4 c = simp (lt-leb _ _ (c .if4 .taken), and-false)
 returns-5 : tie.Need-returns-5
 unfolding rangesOk
 returns-5 c =
-    let a = c .before .before .before .before .before .args in
-    let past : 2 ^ 64 < a .base + placedMax = omega arith in
+    let host = c .before .before .before .before .before .before .before .before .before .before .before .args .host in
+    let past : 2 ^ 64 < host .slot + placedMax = omega arith in
     simp (lt-leb _ _ past, and-false)
 
 returns-6 : tie.Need-returns-6
 unfolding rangesOk
 returns-6 c =
-    let a = c .before .before .before .before .before .args in
-    let text-ends : a .text + a .size ≤ 2 ^ 64 = omega arith in
-    let slot-ends : a .base + placedMax ≤ 2 ^ 64 = omega arith in
+    let slot-some = c .before .before in
+    let text-told = slot-some .before .before .before .before .before in
+    let text-some = text-told .before .before in
+    let host = text-some .before .before .args .host in
+    let text-ends : host .text + host .«text_length» ≤ 2 ^ 64 = omega arith in
+    let slot-ends : host .slot + placedMax ≤ 2 ^ 64 = omega arith in
     simp (
-      le-leb _ _ (c .before .before .before .before .if1 .left),
-      le-leb _ _ (c .before .before .before .if2 .left),
+      le-leb _ _ (text-some .if1 .left),
+      le-leb _ _ (text-told .if2 .left),
       le-leb _ _ text-ends,
-      le-leb _ _ (c .before .if4 .left),
+      le-leb _ _ (slot-some .if4 .left),
       le-leb _ _ slot-ends,
     )
 

@@ -1,179 +1,189 @@
 -- `urddolwy_prepare` meets its contract: a refusal leaves the three buffers, and else each holds what its definition says.
 use Prim.Native.Nat.{ℕ, _≤_}
 use mathlib.Core.Path.{_≡_, refl, sym, ap, subst⁻¹, _∙_}
-use mathlib.Core.Bool.{true, _&&_}
+use mathlib.Core.Bool.{true}
 use mathlib.Core.List.{List}
-use lib.ListN.{length}
 use Rattle.words.proofs.Tests.{held, refuted}
 use Rattle.records.specs.Limits.{recordsMax}
+use Rattle.records.specs.Refusal.{verdictCode}
+use Rattle.records.specs.Verdict.{refusal, decide}
+use Rattle.records.specs.declared.refusal.Reason.the-variants.{Invalid}
+use Rattle.records.specs.declared.refusal.Place.the-variants.{Nowhere}
 use Rattle.records.specs.declared.refusal.Verdict.{Verdict}
 use Rattle.records.specs.declared.refusal.Verdict.the-variants.{Pass}
 use Rattle.encode.specs.Encode.{Fitting}
-use Rattle.acceptance.specs.Stages.{Target, target, relocatedOf}
-use Rattle.prepare.specs.Prepare.{Outcome, outcome, prepareRules, acceptedOf, prepareOf}
+use Rattle.acceptance.specs.Stages.{Setting, setting, machineAt}
+use Rattle.prepare.specs.Prepare.{Outcome, outcome, prepareRules, acceptedPrepared, prepareOf}
 use Rattle.prepare.specs.declared.prepare.Prepared.{Prepared}
-use Rattle.abi.specs.Preparing.{rangesOk, buffersOk, left, leftBy, callOf, ZeroExactly}
-use Rattle.abi.proofs.Accepting.{owed}
-use Rattle.abi.proofs.Calls.{wrong-call, wrong-list, by-payload, rules-told, outcome-is, few-records, fitting, text-ends, ranges-any, buffers-told, left-same, written}
+use Rattle.abi.specs.Preparing.{hostOf, rangesOk, Buffers, buffers, buffersOk, left, refusedCall, callOf, Answers}
+use Rattle.abi.proofs.Accepting.{answers}
+use Rattle.abi.proofs.Calls.{
+  rightCall,
+  writtenOf,
+  wrong-call,
+  wrong-list,
+  by-payload,
+  prepare-rules,
+  outcome-is,
+  few-records,
+  fitting,
+  text-ends,
+  sizes-told,
+  left-same,
+}
 use borrow.Author.Needs.{needs}
 use Rattle.abi.proofs.preparing.urddolwy_prepare.Statement.{statement}
 use Rattle.abi.proofs.preparing.urddolwy_prepare.Tie as tie
 
-abbrev aim : tie.Start → Target
-aim s = target (s .args .text) (s .args .size) (s .args .base) (s .args .list .now)
+module _ (c : tie.After-refused) where
+  abbrev start : tie.Start
+  start = c .before .before .before .before .before .before
 
-abbrev file-of : tie.Start → List ℕ
-file-of s = s .args .file .now
+  abbrev aim : Setting
+  aim = setting (hostOf (start .args .text) (start .args .size) (start .args .slot)) (start .args .list .now)
 
--- the three buffers as they were lent
-abbrev slot-of : tie.Start → List ℕ
-slot-of s = s .args .image .now
+  abbrev file-of : List ℕ
+  file-of = start .args .file .now
 
-abbrev edits-of : tie.Start → List ℕ
-edits-of s = s .args .edits .now
+  -- the buffers as they were lent
+  abbrev lent : Buffers
+  lent = buffers (start .args .image .now) (start .args .edits .now) (start .args .summary .now)
 
-abbrev summary-of : tie.Start → List ℕ
-summary-of s = s .args .summary .now
-
--- what is owed at a return
-abbrev Owed : tie.Start → ℕ → List ℕ → List ℕ → List ℕ → Type 0
-Owed s answer slot edits summary =
-    (left answer slot edits summary ≡ callOf (aim s) (file-of s) (slot-of s) (edits-of s) (summary-of s))
-    × ZeroExactly (aim s) (file-of s) (slot-of s) (edits-of s) (summary-of s) answer
-
-whole :
-    (s : tie.Start) {answer : ℕ} {slot edits summary : List ℕ} →
-    left answer slot edits summary ≡ callOf (aim s) (file-of s) (slot-of s) (edits-of s) (summary-of s) → Owed s answer slot edits summary
-whole s same = owed (aim s) (file-of s) (slot-of s) (edits-of s) (summary-of s) _ _ _ _ same
+  -- 22, nowhere, with the buffers as they were
+  invalid :
+      {answer : ℕ} → answer ≡ verdictCode (c .refused .result) → callOf aim file-of lent ≡ refusedCall lent (refusal Invalid Nowhere) →
+      Answers aim file-of lent (left answer lent)
+  invalid told call =
+      answers aim file-of lent (ap (λ (n : ℕ). left n lent) (told ∙ ap verdictCode (c .refused .ensures)) ∙ sym call)
 
 returns : tie.Need-returns
 returns c =
-    let s = c .before .before .before .before .before .before .before in
-    whole s (sym (wrong-call (aim s) (file-of s) (slot-of s) (edits-of s) (summary-of s) (rw (refuted (c .before .buffers-ok .ensures) (c .if1 .taken)))))
+    let sizing = c .before .before in
+    invalid (sizing .before) (c .code .ensures) (wrong-call _ _ _ (rw (refuted (sizing .buffer-sizes-ok .ensures) (c .before .if1 .taken))))
 
--- the ranges, whatever the list is
-in-ranges : (c : tie.After-ranges-ok) → c .ranges-ok .result ≡ rangesOk (aim (c .before .before .before .before .before .before .before .before))
-in-ranges c = c .ranges-ok .ensures ∙ ranges-any _ _ _ (c .before .before .before .before .before .before .before .before .args .list .now)
+-- the buffers have their sizes
+module _ (c : tie.Else1) where
+  abbrev begun : tie.After-refused
+  begun = c .before .before
+
+  sizes : buffersOk (lent begun) ≡ true
+  sizes = held (c .before .buffer-sizes-ok .ensures) (c .if1 .left)
 
 returns-2 : tie.Need-returns-2
 returns-2 c =
-    let s = c .before .before .before .before .before .before .before .before .before in
-    whole s
-    (sym
-    (wrong-call (aim s) (file-of s) (slot-of s) (edits-of s) (summary-of s)
-    (rw (held (c .before .before .before .buffers-ok .ensures) (c .before .before .if1 .left), refuted (in-ranges (c .before)) (c .if2 .taken)))))
+    let ranging = c .before .before in
+    let sized = ranging .before in
+    invalid (begun sized) (c .code2 .ensures)
+    (wrong-call _ _ _ (rw (sizes sized, refuted (ranging .ranges-ok .ensures) (c .before .if2 .taken))))
 
 -- the sizes and the ranges are right
 module _ (c : tie.Else2) where
-  abbrev start : tie.Start
-  start = c .before .before .before .before .before .before .before .before .before
+  abbrev sized : tie.Else1
+  sized = c .before .before
 
-  buffers : buffersOk (length (slot-of start)) (length (edits-of start)) (length (summary-of start)) ≡ true
-  buffers = held (c .before .before .before .buffers-ok .ensures) (c .before .before .if1 .left)
+  ranges : rangesOk (aim (begun sized) .host) ≡ true
+  ranges = held (c .before .ranges-ok .ensures) (c .if2 .left)
 
-  ranges : rangesOk (aim start) ≡ true
-  ranges = held (in-ranges (c .before)) (c .if2 .left)
-
-  right : (buffersOk (length (slot-of start)) (length (edits-of start)) (length (summary-of start)) && rangesOk (aim start)) ≡ true
-  right = rw (buffers, ranges)
+  right : rightCall (aim (begun sized)) (lent (begun sized)) ≡ true
+  right = rw (sizes sized, ranges)
 
 returns-3 : tie.Need-returns-3
 returns-3 c =
-    let sized = c .before .before in
-    let s = start sized in
-    whole s
-    (sym (wrong-list (aim s) (file-of s) (slot-of s) (edits-of s) (summary-of s) (right sized) (refuted (c .before .is-valid .ensures) (c .if3 .taken))))
+    let listing = c .before .before in
+    let ranged = listing .before in
+    invalid (begun (sized ranged)) (c .code3 .ensures)
+    (wrong-list _ _ _ (right ranged) (refuted (listing .is-valid .ensures) (c .before .if3 .taken)))
 
 -- what the preparation answered
 module _ (c : tie.After-prepare) where
-  abbrev sized : tie.Else2
-  sized = c .before .before .before .before
+  abbrev ranged : tie.Else2
+  ranged = c .before .before .before .before
 
-  abbrev called : tie.Start
-  called = start sized
+  -- what it was called with
+  abbrev target : Setting
+  target = aim (begun (sized ranged))
+
+  abbrev file : List ℕ
+  file = file-of (begun (sized ranged))
+
+  abbrev given : Buffers
+  given = lent (begun (sized ranged))
 
   abbrev answer : Prepared
   answer = c .prepare .result
 
   abbrev slot : List ℕ
-  slot = c .prepare .last .1 .1 .1 .1 .1 .0
+  slot = c .prepare .last .1 .1 .1 .0
 
-  prepared : outcome answer slot ≡ prepareOf (aim called) (file-of called) (slot-of called)
-  prepared = c .prepare .ensures .0
+  prepared : outcome answer slot ≡ prepareOf target file (given .image)
+  prepared = c .prepare .ensures .equal
 
-  -- the call answers as the payload's own rules say
-  by-rules :
-      (v : Verdict) → answer .verdict ≡ v →
-      callOf (aim called) (file-of called) (slot-of called) (edits-of called) (summary-of called)
-      ≡ leftBy (aim called) (file-of called) (slot-of called) (edits-of called) (summary-of called) v
-  by-rules v told =
-      by-payload (aim called) (file-of called) (slot-of called) (edits-of called) (summary-of called) (right sized)
-      (held (c .before .before .before .is-valid .ensures) (c .before .before .if3 .left))
-      ∙ ap (leftBy (aim called) (file-of called) (slot-of called) (edits-of called) (summary-of called))
-      (rules-told (aim called) (file-of called) (slot-of called) answer slot prepared v told)
+  -- the call is decided by its verdict
+  called : {v : Verdict} → answer .verdict ≡ v → callOf target file given ≡ decide (refusedCall given) (writtenOf target (outcome answer slot)) v
+  called told =
+      let listed = held (c .before .before .before .is-valid .ensures) (c .before .before .if3 .left) in
+      by-payload target given file (right ranged) listed prepared told
 
 returns-4 : tie.Need-returns-4
 returns-4 c =
     let preparing = c .before .before .before .before .before .before in
-    let s = called preparing in
     let told = c .before .before .verdict .given .1 in
-    whole s
-    (left-same (c .code .ensures)
-    (ap (λ (x : Outcome). x .image) (outcome-is (aim s) (file-of s) (slot-of s) (answer preparing) _ (prepared preparing) _ told)) refl refl
-    ∙ sym (by-rules preparing _ told))
+    let kept = ap (λ (o : Outcome). o .image) (outcome-is _ _ _ (prepared preparing) told) in
+    answers _ _ _ (left-same (c .code4 .ensures) kept refl refl ∙ sym (called preparing told))
 
 -- the payload is accepted
 module _ (c : tie.After-enum-told) where
   abbrev preparing : tie.After-prepare
   preparing = c .before .before .before .before
 
-  abbrev here : tie.Start
-  here = called preparing
+  accepted-rules : prepareRules (target preparing) (file preparing) (given preparing .image) ≡ Pass
+  accepted-rules = prepare-rules _ _ _ (prepared preparing) (c .enum-told .given .1)
 
-  accepted-rules : prepareRules (aim here) (file-of here) (slot-of here) ≡ Pass
-  accepted-rules = rules-told (aim here) (file-of here) (slot-of here) (answer preparing) _ (prepared preparing) Pass (c .enum-told .given .1)
+  accepted : answer preparing ≡ acceptedPrepared (target preparing) (file preparing)
+  accepted = ap (λ (o : Outcome). o .answer) (outcome-is _ _ _ (prepared preparing) (c .enum-told .given .1))
 
-  accepted-outcome : outcome (answer preparing) (slot preparing) ≡ outcome (acceptedOf (aim here) (file-of here)) (relocatedOf (aim here) (file-of here) .image)
-  accepted-outcome = outcome-is (aim here) (file-of here) (slot-of here) (answer preparing) _ (prepared preparing) Pass (c .enum-told .given .1)
+  -- the edits are few enough, and fit their entries
+  abbrev Writable : Prepared → Type 0
+  Writable p = let t = target preparing in (p .«edit_count» ≤ recordsMax) × Fitting (machineAt t) (t .host .text) (p .edits) (p .«edit_count»)
 
-  accepted-answer : answer preparing ≡ acceptedOf (aim here) (file-of here)
-  accepted-answer = ap (λ (x : Outcome). x .answer) accepted-outcome
-
-  can-write : (answer preparing .«edit_count» ≤ recordsMax) × Fitting (here .args .text) (answer preparing .edits) (answer preparing .«edit_count»)
+  can-write : Writable (answer preparing)
   can-write =
-      subst⁻¹ (λ (x : Prepared). (x .«edit_count» ≤ recordsMax) × Fitting (here .args .text) (x .edits) (x .«edit_count»)) accepted-answer (
-        few-records (aim here) (file-of here) (slot-of here) accepted-rules,
-        fitting (aim here) (file-of here) (slot-of here) accepted-rules (text-ends (aim here) (ranges (sized preparing))),
+      subst⁻¹ Writable accepted (
+        few-records _ _ _ accepted-rules,
+        fitting _ _ _ accepted-rules (text-ends (target preparing .host) (ranges (ranged preparing))),
       )
 
 write-edits-requires : tie.Need-write-edits-requires
 write-edits-requires c κs =
-    let accepted = c .before .before in
-    (buffers-told _ _ _ (buffers (sized (preparing accepted))) .1, can-write accepted .0, can-write accepted .1)
+    let done = c .before .before in
+    (sizes-told _ _ _ (sizes (sized (ranged (preparing done)))) .1, can-write done .0, can-write done .1)
 
 write-summary-requires : tie.Need-write-summary-requires
 write-summary-requires c κs =
-    let accepted = c .before .before .before .before .before .before .before .before in
-    buffers-told _ _ _ (buffers (sized (preparing accepted))) .2
+    let done = c .before .before .before .before .before .before .before .before in
+    sizes-told _ _ _ (sizes (sized (ranged (preparing done)))) .2
 
 returns-5 : tie.Need-returns-5
 returns-5 c =
-    let accepted = c .before .before .before .before .before .before .before .before .before .before .before in
-    let s = here accepted in
-    whole s
-    (left-same refl (ap (λ (x : Outcome). x .image) (accepted-outcome accepted))
-    (c .before .before .before .before .before .before .before .before .write-edits .ensures) (c .before .before .write-summary .ensures)
-    ∙ written (aim s) (file-of s) (slot-of s) (edits-of s) (summary-of s) (answer (preparing accepted)) (accepted-answer accepted)
-    ∙ sym (by-rules (preparing accepted) Pass (accepted .enum-told .given .1)))
+    let summed = c .before .before in
+    let edited = summed .before .before .before .before .before .before in
+    let done = edited .before .before .before in
+    answers _ _ _
+    (left-same refl refl (edited .write-edits .ensures) (summed .write-summary .ensures)
+    ∙ sym (called (preparing done) (done .enum-told .given .1)))
 
 pub urddolwy-prepare-spec : {M : Type 1} → statement M
 urddolwy-prepare-spec =
     tie.close
     (tie.spec
     (λ c κs. search needs)
+    (λ c κs. search needs)
+    (λ c κs. search needs)
     returns
     (λ c κs. search needs)
+    (λ c κs. search needs)
     returns-2
+    (λ c κs. search needs)
     (λ c κs. search needs)
     returns-3
     (λ c κs. search needs)

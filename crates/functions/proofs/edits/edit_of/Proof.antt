@@ -7,14 +7,14 @@ use Rattle.functions.proofs.edits.edit_of.Tie as tie
 returns : tie.Need-returns
 unfolding editOf
 returns c =
-    let o = c .before .before .before .before in
-    rw (← o .before .read-record .ensures, ← o .old-address .ensures, c .before .before .old .given .1, c .edit-from .ensures)
+    let addressed = c .before .before .before .before in
+    rw (← addressed .before .read-record .ensures, ← addressed .old-address .ensures, c .before .before .old .given .1, c .edit-from .ensures)
 
 returns-2 : tie.Need-returns-2
 unfolding editOf
 returns-2 c =
-    let o = c .before .before .before in
-    rw (← o .before .read-record .ensures, ← o .old-address .ensures, c .before .reason .given .1)
+    let addressed = c .before .before .before in
+    rw (← addressed .before .read-record .ensures, ← addressed .old-address .ensures, c .before .reason .given .1)
 
 pub edit-of-spec : {M : Type 1} → statement M
 edit-of-spec =

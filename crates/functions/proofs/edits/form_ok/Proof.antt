@@ -5,6 +5,7 @@ use native.Mathlib.Omega.{arith}
 use borrow.Author.Needs.{needs}
 use borrow.Author.Tests.{eq-eqb, ne-eqb}
 use Rattle.words.specs.Splice.{part}
+use Rattle.records.specs.Limits.{recordSize}
 use Rattle.functions.specs.Edits.{formOk}
 use Rattle.functions.proofs.edits.form_ok.Statement.{statement}
 use Rattle.functions.proofs.edits.form_ok.Tie as tie
@@ -17,7 +18,7 @@ returns-2 : tie.Need-returns-2
 unfolding formOk part
 returns-2 c =
     let at = c .before .before .before .before .before .args .at in
-    let size : at + 64 - (at + 33) ≡ 31 = omega arith in
+    let size : at + recordSize - (at + 33) ≡ 31 = omega arith in
     rw (c .all-zero .ensures, size, eq-eqb _ _ (c .before .before .if1 .left))
 
 pub form-ok-spec : {M : Type 1} → statement M

@@ -1,34 +1,26 @@
 -- `jump_ok` meets its contract.
-use Prim.Native.Nat.{_≤_, _<_}
-use native.Mathlib.Omega.{arith}
 use borrow.Author.Needs.{needs}
 use borrow.Author.Tests.{le-leb, lt-leb}
-use Rattle.machine.specs.Edits.{jumpLength}
 use Rattle.functions.specs.Edits.{jumpOk}
-use Rattle.functions.proofs.FunctionLaws.{sizes-known}
 use Rattle.functions.proofs.edits.jump_ok.Statement.{statement}
 use Rattle.functions.proofs.edits.jump_ok.Tie as tie
 
 returns : tie.Need-returns
 unfolding jumpOk
-returns c = simp (lt-leb _ _ (c .if1 .taken))
+returns c = rw (lt-leb _ _ (c .if1 .taken))
 
 returns-2 : tie.Need-returns-2
 unfolding jumpOk
 returns-2 c =
-    let known = sizes-known (c .before .before .before .before .before .machine-sizes .ensures) in
-    let f = c .before .before .before .before .before .before .args .f in
-    let short : f .«old_size» < jumpLength = omega (arith, known, c .if2 .taken) in
-    simp (le-leb _ _ (c .before .before .before .if1 .left), lt-leb _ _ short)
+    let sized = c .before .before in
+    rw (le-leb _ _ (sized .before .if1 .left), ← sized .jump-length .ensures .0, lt-leb _ _ (c .if2 .taken))
 
 returns-3 : tie.Need-returns-3
 unfolding jumpOk
 returns-3 c =
-    let known = sizes-known (c .before .before .before .before .before .before .machine-sizes .ensures) in
-    let f = c .before .before .before .before .before .before .before .args .f in
-    let room : jumpLength ≤ f .«old_size» = omega (arith, known, c .before .if2 .left) in
-    simp (le-leb _ _ (c .before .before .before .before .if1 .left), le-leb _ _ room, c .lies-in .ensures)
+    let sized = c .before .before .before in
+    rw (le-leb _ _ (sized .before .if1 .left), ← sized .jump-length .ensures .0, le-leb _ _ (c .before .if2 .left), c .lies-in .ensures)
 
 pub jump-ok-spec : {M : Type 1} → statement M
 jump-ok-spec =
-    tie.close (tie.spec (λ c κs. search needs) returns returns-2 (λ c κs. search needs) returns-3)
+    tie.close (tie.spec returns (λ c κs. search needs) returns-2 (λ c κs. search needs) returns-3)

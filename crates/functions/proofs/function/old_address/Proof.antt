@@ -11,20 +11,24 @@ returns c = simp (ne-eqb _ _ (c .if1 .taken))
 
 returns-2 : tie.Need-returns-2
 unfolding oldAddressOf
-returns-2 c = simp (eq-eqb _ _ (c .before .if1 .left), lt-leb _ _ (c .if2 .taken))
+returns-2 c = simp (eq-eqb _ _ (c .before .before .if1 .left), lt-leb _ _ (c .if2 .taken))
 
 returns-3 : tie.Need-returns-3
 unfolding oldAddressOf
-returns-3 c = simp (eq-eqb _ _ (c .before .before .if1 .left), le-leb _ _ (c .before .if2 .left), le-ltb _ _ (c .if3 .taken))
+returns-3 c =
+    let above = c .before .before in
+    simp (eq-eqb _ _ (above .before .before .if1 .left), le-leb _ _ (above .if2 .left), le-ltb _ _ (c .if3 .taken))
 
 returns-4 : tie.Need-returns-4
 unfolding oldAddressOf
 returns-4 c =
+    let inside = c .before .before in
+    let above = inside .before .before in
     rw (
-      eq-eqb _ _ (c .before .before .before .if1 .left),
-      le-leb _ _ (c .before .before .if2 .left),
-      lt-ltb _ _ (c .before .if3 .left),
-      c .listed-address .ensures,
+      eq-eqb _ _ (above .before .before .if1 .left),
+      le-leb _ _ (above .if2 .left),
+      lt-ltb _ _ (inside .if3 .left),
+      c .named-address .ensures,
     )
 
 pub old-address-spec : {M : Type 1} → statement M

@@ -34,43 +34,47 @@ loop-holds c = (omega arith, begin _ _ _)
 
 loop-again : tie.Need-loop-again Inv-loop μ-loop Inv-pairs μ-pairs
 loop-again c =
-    let es = c .before .before .before .before .before .before .before .before .args .t1 in
-    let i = c .before .before .before .before .loop .i in
-    let within : i < length es = omega arith in (
+    let turned = c .before .before .before in
+    let inner = turned .before in
+    let es = inner .before .before .before .before .args .t1 in
+    let within : inner .loop .i < length es = omega arith in (
       omega arith,
-      c .before .before .before .before .loop .inv .1
-          ∙ turn _ _ _ _ (c .before .before .before .loop-test .taken)
-          ∙ rw (copied es i within, ← c .before .touching .ensures, c .if1 .left),
+      inner .loop .inv .1
+          ∙ turn _ _ _ _ (turned .loop-test .taken)
+          ∙ rw (copied es (inner .loop .i) within, ← c .before .touching .ensures, c .if1 .left),
     )
 
 pairs-again : tie.Need-pairs-again Inv-loop μ-loop Inv-pairs μ-pairs
 pairs-again c =
-    let es = c .before .before .before .before .before .args .t1 in
-    let j = c .before .before .before .before .pairs .j in
-    let within : j < length es = omega arith in (
+    let turned = c .before .before .before in
+    let outer = turned .before in
+    let es = outer .before .args .t1 in
+    let within : outer .pairs .j < length es = omega arith in (
       omega arith,
-      c .before .before .before .before .pairs .inv .1
-          ∙ turn _ _ _ _ (c .before .before .before .pairs-test .taken)
-          ∙ rw (copied es j within, c .before .loop .inv .1, end _ _ _ _ (c .loop-test .left)),
+      outer .pairs .inv .1
+          ∙ turn _ _ _ _ (turned .pairs-test .taken)
+          ∙ rw (copied es (outer .pairs .j) within, c .before .loop .inv .1, end _ _ _ _ (c .loop-test .left)),
     )
 
+-- a sum taken apart, the sum first
 by-way : {A B P : Type 0} → A ⊎ B → (A → P) → (B → P) → P
 by-way w f g = ⊎-elim f g w
 
--- the ways out of the outer loop: its own test, and the label
+-- the ways out of the outer loop: its own test, and the label, by which the inner loop (2, 3) left after a touch (5, 6)
 returns : tie.Need-returns Inv-loop μ-loop Inv-pairs μ-pairs
 unfolding pairRules
 returns c =
-    let es = c .before .before .before .args .t1 in
-    let j = c .before .before .pairs .j in
+    let ended = c .before .before in
+    let es = ended .before .before .args .t1 in
+    let j = ended .before .pairs .j in
     let later : j < length es = omega arith in
-    by-way (c .before .pairs-test .came)
+    by-way (ended .pairs-test .came)
     (λ w. absurd (omega arith))
     (λ w.
     let earlier : w .2 .i < length es = omega (arith, w .3 .taken) in
     let touches : touched es (editIn es j) j ≡ true =
     rw (copied es j later) (w .2 .inv .1 ∙ turn _ _ _ _ (w .3 .taken) ∙ rw (copied es (w .2 .i) earlier, ← w .5 .ensures, w .6 .taken)) in
-    rw (c .before .before .pairs .inv .1, turn (one-pair es) Pass _ _ (c .if2 .taken), touches))
+    rw (c .refused .ensures, ended .before .pairs .inv .1, turn (one-pair es) Pass _ _ (c .before .if2 .taken), touches))
 
 returns-2 : tie.Need-returns-2 Inv-loop μ-loop Inv-pairs μ-pairs
 unfolding pairRules
@@ -98,5 +102,6 @@ check-pairs-spec =
     (λ c. omega arith)
     pairs-again
     (λ c. omega arith)
+    (λ c κs. search needs)
     returns
     returns-2)

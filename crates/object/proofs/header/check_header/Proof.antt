@@ -18,13 +18,16 @@ returns-2 c = simp (lt-leb _ _ (c .if2 .taken), and-false)
 
 returns-3 : tie.Need-returns-3
 unfolding headerRules
-returns-3 c = simp (sym (c .before .before .read-file-header .ensures .0), refuted (c .before .fields-ok .ensures) (c .if3 .taken), and-false)
+returns-3 c =
+    let asked = c .before in
+    simp (sym (asked .before .read-file-header .ensures .0), refuted (asked .fields-ok .ensures) (c .if3 .taken), and-false)
 
 returns-4 : tie.Need-returns-4
 unfolding headerRules
 returns-4 c =
+    let right = c .before .before .before in
     simp (
-      sym (c .before .before .before .before .before .read-file-header .ensures .0),
+      sym (right .before .before .read-file-header .ensures .0),
       refuted (c .before .lies-within .ensures) (c .if4 .taken),
       and-false,
     )
@@ -32,12 +35,14 @@ returns-4 c =
 returns-5 : tie.Need-returns-5
 unfolding headerRules sizeOk
 returns-5 c =
-    let cf = c .before .before .before .before in
+    let right = c .before .before .before in
+    let read = right .before .before in
+    let short = read .before in
     simp (
-      le-leb _ _ (cf .before .before .before .if1 .left),
-      le-leb _ _ (cf .before .before .if2 .left),
-      sym (cf .before .read-file-header .ensures .0),
-      held (cf .fields-ok .ensures) (c .before .before .before .if3 .left),
+      le-leb _ _ (short .before .if1 .left),
+      le-leb _ _ (short .if2 .left),
+      sym (read .read-file-header .ensures .0),
+      held (right .before .fields-ok .ensures) (right .if3 .left),
       held (c .before .lies-within .ensures) (c .if4 .left),
     )
 

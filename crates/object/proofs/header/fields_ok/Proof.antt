@@ -1,5 +1,7 @@
 -- `header::fields_ok` meets its contract: a field that is wrong makes the whole test false, whatever the fields before it are.
+use mathlib.Core.Path.{sym}
 use mathlib.Core.Bool.{and-false}
+use borrow.Author.Needs.{needs}
 use borrow.Author.Tests.{le-leb, lt-leb, eq-eqb, ne-eqb}
 use Rattle.object.specs.Header.{fieldsOk}
 use Rattle.object.proofs.header.fields_ok.Statement.{statement}
@@ -27,7 +29,7 @@ returns-5 c = simp (ne-eqb _ _ (c .if5 .taken), and-false)
 
 returns-6 : tie.Need-returns-6
 unfolding fieldsOk
-returns-6 c = simp (ne-eqb _ _ (c .if6 .taken), and-false)
+returns-6 c = simp (sym (c .before .before .number .ensures), ne-eqb _ _ (c .if6 .taken), and-false)
 
 returns-7 : tie.Need-returns-7
 unfolding fieldsOk
@@ -48,25 +50,27 @@ returns-10 c = simp (lt-leb _ _ (c .if10 .taken), and-false)
 returns-11 : tie.Need-returns-11
 unfolding fieldsOk
 returns-11 c =
-    let c9 = c .before .before in
-    let c8 = c9 .before .before in
-    let c7 = c8 .before .before in
-    let c6 = c7 .before .before in
-    let c5 = c6 .before .before in
-    let c4 = c5 .before .before in
-    let c3 = c4 .before .before in
-    let c2 = c3 .before .before in
-    let c1 = c2 .before .before in
+    let past-9 = c .before .before in
+    let past-8 = past-9 .before .before in
+    let past-7 = past-8 .before .before in
+    let past-6 = past-7 .before .before in
+    let asked = past-6 .before .before in
+    let past-5 = asked .before in
+    let past-4 = past-5 .before .before in
+    let past-3 = past-4 .before .before in
+    let past-2 = past-3 .before .before in
+    let past-1 = past-2 .before .before in
     simp (
-      eq-eqb _ _ (c1 .if1 .left),
-      eq-eqb _ _ (c2 .if2 .left),
-      eq-eqb _ _ (c3 .if3 .left),
-      eq-eqb _ _ (c4 .if4 .left),
-      eq-eqb _ _ (c5 .if5 .left),
-      eq-eqb _ _ (c6 .if6 .left),
-      eq-eqb _ _ (c7 .if7 .left),
-      eq-eqb _ _ (c8 .if8 .left),
-      le-leb _ _ (c9 .if9 .left),
+      eq-eqb _ _ (past-1 .if1 .left),
+      eq-eqb _ _ (past-2 .if2 .left),
+      eq-eqb _ _ (past-3 .if3 .left),
+      eq-eqb _ _ (past-4 .if4 .left),
+      eq-eqb _ _ (past-5 .if5 .left),
+      sym (asked .number .ensures),
+      eq-eqb _ _ (past-6 .if6 .left),
+      eq-eqb _ _ (past-7 .if7 .left),
+      eq-eqb _ _ (past-8 .if8 .left),
+      le-leb _ _ (past-9 .if9 .left),
       le-leb _ _ (c .if10 .left),
     )
 
@@ -79,6 +83,7 @@ fields-ok-spec =
     returns-3
     returns-4
     returns-5
+    (λ c κs. search needs)
     returns-6
     returns-7
     returns-8

@@ -1,4 +1,4 @@
--- `allocated_kind` meets its contract.
+-- `kinds::allocated_kind` meets its contract.
 use mathlib.Core.Bool.{and-false}
 use borrow.Author.Needs.{needs}
 use borrow.Author.Tests.{eq-eqb, ne-eqb}
@@ -16,30 +16,30 @@ returns-2 c =
 
 returns-3 : tie.Need-returns-3
 returns-3 c =
-    let placed = c .before .before .before .before in
+    let not-1 = c .before .before in
+    let placed = not-1 .before .before in
     simp (
       held (placed .before .is-placed-name .ensures) (placed .if1 .left),
-      ne-eqb _ _ (c .before .before .if2 .left),
+      ne-eqb _ _ (not-1 .if2 .left),
       eq-eqb _ _ (c .if3 .taken),
     )
 
 returns-4 : tie.Need-returns-4
 returns-4 c =
-    let placed = c .before .before .before .before .before .before in
+    let not-7 = c .before .before in
+    let not-1 = not-7 .before .before in
+    let placed = not-1 .before .before in
     simp (
       held (placed .before .is-placed-name .ensures) (placed .if1 .left),
-      ne-eqb _ _ (c .before .before .before .before .if2 .left),
-      ne-eqb _ _ (c .before .before .if3 .left),
+      ne-eqb _ _ (not-1 .if2 .left),
+      ne-eqb _ _ (not-7 .if3 .left),
       eq-eqb _ _ (c .if4 .taken),
     )
 
 returns-5 : tie.Need-returns-5
 returns-5 c =
-    simp (
-      ne-eqb _ _ (c .before .before .before .before .if2 .left),
-      ne-eqb _ _ (c .before .before .if3 .left),
-      ne-eqb _ _ (c .if4 .left),
-    )
+    let not-7 = c .before .before in
+    simp (ne-eqb _ _ (not-7 .before .before .if2 .left), ne-eqb _ _ (not-7 .if3 .left), ne-eqb _ _ (c .if4 .left))
 
 pub allocated-kind-spec : {M : Type 1} → statement M
 allocated-kind-spec =

@@ -1,4 +1,4 @@
--- `in_family` meets its contract.
+-- `kinds::in_family` meets its contract.
 use mathlib.Core.Path.{sym}
 use native.Mathlib.Omega.{arith}
 use borrow.Author.Needs.{needs}
@@ -24,7 +24,9 @@ returns-3 : tie.Need-returns-3
 returns-3 c = sym (one-more _ _ (c .before .if2 .left) (omega arith))
 
 returns-4 : tie.Need-returns-4
-returns-4 c = sym (by-dot _ _ (held (c .before .before .before .before .starts-with .ensures) (c .before .before .before .if1 .left)) (omega arith))
+returns-4 c =
+    let begun = c .before .before .before in
+    sym (by-dot _ _ (held (begun .before .starts-with .ensures) (begun .if1 .left)) (omega arith))
 
 pub in-family-spec : {M : Type 1} → statement M
 in-family-spec =

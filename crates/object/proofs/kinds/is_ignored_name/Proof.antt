@@ -1,4 +1,4 @@
--- `is_ignored_name` meets its contract.
+-- `kinds::is_ignored_name` meets its contract.
 use borrow.Author.Needs.{needs}
 use Rattle.object.specs.Kinds.{isIgnoredName}
 use Rattle.object.proofs.kinds.is_ignored_name.Statement.{statement}

@@ -1,4 +1,4 @@
--- `is_placed_name` meets its contract.
+-- `kinds::is_placed_name` meets its contract.
 use borrow.Author.Needs.{needs}
 use Rattle.object.specs.Kinds.{isPlacedName}
 use Rattle.object.proofs.kinds.is_placed_name.Statement.{statement}

@@ -1,4 +1,4 @@
--- `note_kind` meets its contract.
+-- `kinds::note_kind` meets its contract.
 use borrow.Author.Tests.{eq-eqb, ne-eqb}
 use Rattle.object.proofs.kinds.note_kind.Statement.{statement}
 use Rattle.object.proofs.kinds.note_kind.Tie as tie

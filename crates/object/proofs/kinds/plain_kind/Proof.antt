@@ -1,4 +1,4 @@
--- `plain_kind` meets its contract.
+-- `kinds::plain_kind` meets its contract.
 use mathlib.Core.Path.{sym}
 use borrow.Author.Needs.{needs}
 use borrow.Author.Tests.{eq-eqb, ne-eqb}

@@ -1,4 +1,4 @@
--- `starts_with` meets its contract.
+-- `kinds::starts_with` meets its contract.
 use mathlib.Core.Path.{sym}
 use borrow.Author.Needs.{needs}
 use lib.Seq.{length-take-le}

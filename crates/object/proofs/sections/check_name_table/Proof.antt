@@ -18,17 +18,18 @@ returns c =
 
 header-at-requires : tie.Need-header-at-requires
 header-at-requires c κs =
-    (c .before .before .before .before .pre, omega (arith, count-read _ (c .before .before .read-file-header .ensures .0)))
+    let read = c .before .before in
+    (read .before .before .pre, omega (arith, count-read _ (read .read-file-header .ensures .0)))
 
 returns-2 : tie.Need-returns-2
 unfolding nameTableRules
 returns-2 c =
-    let ch = c .before .before in
-    let e = ch .before .before .before .read-file-header .ensures .0 in
+    let names = c .before .before in
+    let e = names .before .before .before .read-file-header .ensures .0 in
     simp (
       sym (count-read _ e),
       sym (names-read _ e),
-      sym (ch .header-at .ensures),
+      sym (names .header-at .ensures),
       ne-eqb _ _ (c .if2 .taken),
       and-false,
     )
@@ -36,12 +37,13 @@ returns-2 c =
 returns-3 : tie.Need-returns-3
 unfolding nameTableRules
 returns-3 c =
-    let ch = c .before .before .before .before in
-    let e = ch .before .before .before .read-file-header .ensures .0 in
+    let typed = c .before .before in
+    let names = typed .before .before in
+    let e = names .before .before .before .read-file-header .ensures .0 in
     simp (
       sym (count-read _ e),
       sym (names-read _ e),
-      sym (ch .header-at .ensures),
+      sym (names .header-at .ensures),
       refuted (c .before .lies-within .ensures) (c .if3 .taken),
       and-false,
     )
@@ -49,14 +51,15 @@ returns-3 c =
 returns-4 : tie.Need-returns-4
 unfolding nameTableRules
 returns-4 c =
-    let ch = c .before .before .before .before in
-    let e = ch .before .before .before .read-file-header .ensures .0 in
+    let typed = c .before .before in
+    let names = typed .before .before in
+    let e = names .before .before .before .read-file-header .ensures .0 in
     simp (
       sym (count-read _ e),
       sym (names-read _ e),
-      sym (ch .header-at .ensures),
-      lt-ltb _ _ (ch .before .if1 .left),
-      eq-eqb _ _ (c .before .before .if2 .left),
+      sym (names .header-at .ensures),
+      lt-ltb _ _ (names .before .if1 .left),
+      eq-eqb _ _ (typed .if2 .left),
       held (c .before .lies-within .ensures) (c .if3 .left),
     )
 

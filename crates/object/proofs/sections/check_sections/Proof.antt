@@ -28,7 +28,7 @@ each-section c = simp (eq-eqb _ _ (c .if1 .left))
 
 returns : tie.Need-returns Inv-loop μ-loop
 unfolding sectionsRules noEntry
-returns c = simp (ne-eqb _ _ (c .before .if1 .taken), c .refuse-at .ensures)
+returns c = simp (ne-eqb _ _ (c .before .if1 .taken), c .refused .ensures)
 
 loop-holds : tie.Need-loop-holds Inv-loop μ-loop
 loop-holds c = (omega arith, begin _ _ _)
@@ -36,21 +36,25 @@ loop-holds c = (omega arith, begin _ _ _)
 returns-2 : tie.Need-returns-2 Inv-loop μ-loop
 unfolding noEntry
 returns-2 c =
-    let cl = c .before .before .before .before .before in
+    let checked = c .before .before in
+    let again = checked .before .before in
+    let so-far = again .before in
     sym
-    (each-section (cl .before)
-    ∙ cl .loop .inv .1
-    ∙ turn _ _ _ _ (c .before .before .before .before .loop-test .taken)
-    ∙ rw (← c .before .before .check-section .ensures, c .enum-told .given .1))
+    (each-section (so-far .before)
+    ∙ so-far .loop .inv .1
+    ∙ turn _ _ _ _ (again .loop-test .taken)
+    ∙ rw (← checked .check-section .ensures, c .enum-told .given .1))
 
 loop-again : tie.Need-loop-again Inv-loop μ-loop
 unfolding noEntry
-loop-again c = (
-  omega arith,
-  c .before .before .before .before .before .loop .inv .1
-      ∙ turn _ _ _ _ (c .before .before .before .before .loop-test .taken)
-      ∙ rw (← c .before .before .check-section .ensures, c .enum-told2 .given .1),
-)
+loop-again c =
+    let checked = c .before .before in
+    let again = checked .before .before in (
+      omega arith,
+      again .before .loop .inv .1
+          ∙ turn _ _ _ _ (again .loop-test .taken)
+          ∙ rw (← checked .check-section .ensures, c .enum-told2 .given .1),
+    )
 
 returns-3 : tie.Need-returns-3 Inv-loop μ-loop
 returns-3 c = sym (each-section (c .before .before) ∙ c .before .loop .inv .1 ∙ end _ _ _ _ (c .loop-test .left))

@@ -1,4 +1,5 @@
--- `sections::contents_of` meets its contract: nothing where the contents start past the end, what there is where they end past it, and else all of them.
+-- `sections::contents_of` meets its contract: nothing where the contents start past the end, what there is where they end past it,
+-- and else all of them.
 use Prim.Native.Nat.{_-_}
 use mathlib.Core.Path.{sym, _∙_}
 use native.Mathlib.Nat.{add-sub-cancel-left}

@@ -8,8 +8,8 @@ use Rattle.object.proofs.sections.name_table.Tie as tie
 
 header-at-requires : tie.Need-header-at-requires
 header-at-requires c κs =
-    let c0 = c .before .before in
-    (c0 .pre .0, omega (arith, names-read _ (c .read-file-header .ensures .0), names-inside _ (c0 .pre .1)))
+    let entered = c .before .before in
+    (entered .pre .0, omega (arith, names-read _ (c .read-file-header .ensures .0), names-inside _ (entered .pre .1)))
 
 returns : tie.Need-returns
 unfolding nameTable

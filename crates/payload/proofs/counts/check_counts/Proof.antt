@@ -2,17 +2,16 @@
 -- rules from the next one on are left.
 use mathlib.Core.Path.{_≡_}
 use native.Mathlib.Omega.{arith}
-use lib.Dec.{eqb}
 use borrow.Author.Needs.{needs}
+use lib.Dec.{eqb}
+use Rattle.words.proofs.Tests.{held, refuted, equals, differs}
 use Rattle.records.specs.Verdict.{must, _then_}
-use Rattle.records.specs.declared.refusal.Reason.the-variants.{Invalid}
 use Rattle.records.specs.declared.refusal.Place.the-variants.{Nowhere, Section}
 use Rattle.records.specs.declared.refusal.Verdict.{Verdict}
 use Rattle.object.specs.Sections.{noEntry, sectionIn}
 use Rattle.object.specs.declared.kinds.Kind.{Kind}
 use Rattle.object.specs.declared.kinds.Kind.the-variants.{Symbols, Records, Depends, BuildId}
 use Rattle.payload.specs.Counts.{countOf, indexOf, symbolTableOk, recordsSizeOk, countRules}
-use Rattle.words.proofs.Tests.{held, refuted, equals, differs}
 use Rattle.payload.proofs.counts.check_counts.Statement.{statement}
 use Rattle.payload.proofs.counts.check_counts.Tie as tie
 
@@ -22,17 +21,17 @@ module _ (s : tie.Start) where
   all-rules = countRules (s .args .t1) (s .args .count)
 
   abbrev one-of : Kind → Verdict
-  one-of kind = must (eqb (countOf (s .args .t1) (s .args .count) kind) 1) Invalid Nowhere
+  one-of kind = must (eqb (countOf (s .args .t1) (s .args .count) kind) 1) 22 Nowhere
 
   abbrev right-header : Verdict
   right-header =
       let i = indexOf (s .args .t1) (s .args .count) Symbols in
-      must (symbolTableOk (s .args .t1) (s .args .count) (sectionIn (s .args .t1) i .header)) Invalid (Section i)
+      must (symbolTableOk (s .args .t1) (s .args .count) (sectionIn (s .args .t1) i .header)) 22 (Section i)
 
   abbrev right-size : Verdict
   right-size =
       let i = indexOf (s .args .t1) (s .args .count) Records in
-      must (recordsSizeOk (sectionIn (s .args .t1) i .header)) Invalid (Section i)
+      must (recordsSizeOk (sectionIn (s .args .t1) i .header)) 22 (Section i)
 
   abbrev three-names : Verdict
   three-names = one-of Records then one-of Depends then one-of BuildId then right-size
@@ -52,30 +51,38 @@ returns-2 c =
       symbols-counted (c .before .before .before .before .before),
       ← c .before .before .before .before .index-of .ensures .0,
       refuted (c .before .before .symbol-table-ok .ensures) (c .before .if2 .taken),
-      c .refuse-at .ensures,
+      c .refused .ensures,
     )
 
-header-passed : (c : tie.Else2) → let s = c .before .before .before .before .before .before in all-rules s ≡ three-names s
+-- where the call began
+abbrev begun : tie.Else2 → tie.Start
+begun c = c .before .before .before .before .before .before
+
+header-passed : (c : tie.Else2) → all-rules (begun c) ≡ three-names (begun c)
 unfolding noEntry
 header-passed c =
-    rw (symbols-counted (c .before .before .before .before), ← c .before .before .before .index-of .ensures .0, held (c .before .symbol-table-ok .ensures) (c .if2 .left))
+    rw (
+      symbols-counted (c .before .before .before .before),
+      ← c .before .before .before .index-of .ensures .0,
+      held (c .before .symbol-table-ok .ensures) (c .if2 .left),
+    )
 
 returns-3 : tie.Need-returns-3
 returns-3 c = rw (header-passed (c .before .before), differs (c .before .count-of2 .ensures) (c .if3 .taken))
 
-records-counted : (c : tie.Else3) → let s = c .before .before .before .before .before .before .before .before in all-rules s ≡ (one-of s Depends then one-of s BuildId then right-size s)
+records-counted : (c : tie.Else3) → let s = begun (c .before .before) in all-rules s ≡ (one-of s Depends then one-of s BuildId then right-size s)
 records-counted c = rw (header-passed (c .before .before), equals (c .before .count-of2 .ensures) (c .if3 .left))
 
 returns-4 : tie.Need-returns-4
 returns-4 c = rw (records-counted (c .before .before), differs (c .before .count-of3 .ensures) (c .if4 .taken))
 
-depends-counted : (c : tie.Else4) → let s = c .before .before .before .before .before .before .before .before .before .before in all-rules s ≡ (one-of s BuildId then right-size s)
+depends-counted : (c : tie.Else4) → let s = begun (c .before .before .before .before) in all-rules s ≡ (one-of s BuildId then right-size s)
 depends-counted c = rw (records-counted (c .before .before), equals (c .before .count-of3 .ensures) (c .if4 .left))
 
 returns-5 : tie.Need-returns-5
 returns-5 c = rw (depends-counted (c .before .before), differs (c .before .count-of4 .ensures) (c .if5 .taken))
 
-build-id-counted : (c : tie.Else5) → let s = c .before .before .before .before .before .before .before .before .before .before .before .before in all-rules s ≡ right-size s
+build-id-counted : (c : tie.Else5) → let s = begun (c .before .before .before .before .before .before) in all-rules s ≡ right-size s
 build-id-counted c = rw (depends-counted (c .before .before), equals (c .before .count-of4 .ensures) (c .if5 .left))
 
 returns-6 : tie.Need-returns-6
@@ -85,13 +92,17 @@ returns-6 c =
       build-id-counted (c .before .before .before .before .before),
       ← c .before .before .before .before .index-of2 .ensures .0,
       refuted (c .before .before .records-size-ok .ensures) (c .before .if6 .taken),
-      c .refuse-at2 .ensures,
+      c .refused2 .ensures,
     )
 
 returns-7 : tie.Need-returns-7
 unfolding noEntry
 returns-7 c =
-    rw (build-id-counted (c .before .before .before .before), ← c .before .before .before .index-of2 .ensures .0, held (c .before .records-size-ok .ensures) (c .if6 .left))
+    rw (
+      build-id-counted (c .before .before .before .before),
+      ← c .before .before .before .index-of2 .ensures .0,
+      held (c .before .records-size-ok .ensures) (c .if6 .left),
+    )
 
 pub check-counts-spec : {M : Type 1} → statement M
 check-counts-spec =

@@ -5,12 +5,13 @@ use native.Mathlib.Omega.{arith}
 use borrow.Author.Needs.{needs}
 use Rattle.words.proofs.Scan.{begin, end}
 use Rattle.object.specs.Sections.{noEntry}
-use Rattle.payload.proofs.CountLaws.{index-from, index-hit, index-miss, indexed}
+use Rattle.payload.proofs.CountLaws.{hits-from, found-here, turn-hits, turn-misses, indexed}
 use Rattle.payload.proofs.counts.index_of.Statement.{statement}
 use Rattle.payload.proofs.counts.index_of.Tie as tie
 
 abbrev Inv-loop : tie.InvT-loop
-Inv-loop count table wanted i₀ i = (i ≤ count) × (index-from table wanted 0 count ≡ index-from table wanted i (count - i))
+Inv-loop count table wanted i₀ i =
+    (i ≤ count) × (hits-from found-here table wanted 0 count ≡ hits-from found-here table wanted i (count - i))
 
 abbrev μ-loop : tie.MeasureT-loop
 μ-loop count table wanted i₀ i = count - i
@@ -21,22 +22,24 @@ loop-holds c = (omega arith, begin _ _ _)
 returns : tie.Need-returns Inv-loop μ-loop
 unfolding noEntry
 returns c =
-    let table = c .before .before .before .before .before .before .args .t1 in
-    let hit = index-hit table (c .before .before .before .before .before .code .result) _ _ (c .before .before .before .loop-test .taken) in (
-      sym (c .before .before .before .before .loop .inv .1 ∙ hit (sym (c .before .code2 .ensures) ∙ c .if1 .taken))
-          ∙ indexed _ _ _ (c .before .before .before .before .before .code .ensures),
-      omega arith,
-    )
+    let test = c .before .before .before in
+    let start = test .before .before in
+    let hits = turn-hits found-here (start .before .args .t1) (start .code .result) _ _ (test .loop-test .taken) in
+    let found = test .before .loop .inv .1 ∙ hits (sym (c .before .code2 .ensures) ∙ c .if1 .taken) in
+    (sym found ∙ indexed _ _ _ (start .code .ensures), omega arith)
 
 loop-again : tie.Need-loop-again Inv-loop μ-loop
 unfolding noEntry
 loop-again c =
-    let table = c .before .before .before .before .before .before .args .t1 in
-    let miss = index-miss table (c .before .before .before .before .before .code .result) _ _ (c .before .before .before .loop-test .taken) in
-    (omega arith, c .before .before .before .before .loop .inv .1 ∙ miss (λ e. c .if1 .left (c .before .code2 .ensures ∙ e)))
+    let test = c .before .before .before in
+    let start = test .before .before in
+    let misses = turn-misses found-here (start .before .args .t1) (start .code .result) _ _ (test .loop-test .taken) in
+    (omega arith, test .before .loop .inv .1 ∙ misses (λ e. c .if1 .left (c .before .code2 .ensures ∙ e)))
 
 returns-2 : tie.Need-returns-2 Inv-loop μ-loop
-returns-2 c = (sym (c .before .loop .inv .1 ∙ end _ _ _ _ (c .loop-test .left)) ∙ indexed _ _ _ (c .before .before .code .ensures), omega arith)
+returns-2 c =
+    let none-found = c .before .loop .inv .1 ∙ end _ _ _ _ (c .loop-test .left) in
+    (sym none-found ∙ indexed _ _ _ (c .before .before .code .ensures), omega arith)
 
 pub index-of-spec : {M : Type 1} → statement M
 index-of-spec =

@@ -18,4 +18,4 @@ unfolding recordsSizeOk
 returns-3 c = simp (le-leb _ _ (c .before .if1 .left), le-leb _ _ (c .if2 .left))
 
 pub records-size-ok-spec : {M : Type 1} → statement M
-records-size-ok-spec = tie.close (tie.spec returns (λ c. search needs) returns-2 returns-3)
+records-size-ok-spec = tie.close (tie.spec returns (λ c. search needs) returns-2 (λ c. search needs) returns-3)

@@ -1,8 +1,8 @@
 -- `symbol_table_ok` meets its contract.
 use borrow.Author.Needs.{needs}
 use borrow.Author.Tests.{lt-ltb, le-ltb, eq-eqb, ne-eqb}
-use Rattle.payload.specs.Counts.{symbolTableOk}
 use Rattle.object.specs.Sections.{noEntry}
+use Rattle.payload.specs.Counts.{symbolTableOk}
 use Rattle.payload.proofs.counts.symbol_table_ok.Statement.{statement}
 use Rattle.payload.proofs.counts.symbol_table_ok.Tie as tie
 
@@ -21,12 +21,10 @@ returns-3 c = simp (eq-eqb _ _ (c .before .before .before .if1 .left), eq-eqb _ 
 returns-4 : tie.Need-returns-4
 unfolding symbolTableOk noEntry
 returns-4 c =
-    simp (
-      eq-eqb _ _ (c .before .before .before .before .before .before .if1 .left),
-      eq-eqb _ _ (c .before .before .before .before .if2 .left),
-      lt-ltb _ _ (c .before .before .before .if3 .left),
-    )
+    let inside = c .before .before .before in
+    let whole = inside .before in
+    simp (eq-eqb _ _ (whole .before .before .if1 .left), eq-eqb _ _ (whole .if2 .left), lt-ltb _ _ (inside .if3 .left))
 
 pub symbol-table-ok-spec : {M : Type 1} → statement M
 symbol-table-ok-spec =
-    tie.close (tie.spec returns returns-2 returns-3 (λ c. search needs) (λ c. search needs) returns-4)
+    tie.close (tie.spec returns (λ c. search needs) returns-2 returns-3 (λ c. search needs) (λ c. search needs) returns-4)

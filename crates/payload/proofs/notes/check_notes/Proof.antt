@@ -6,10 +6,10 @@ use native.Mathlib.Omega.{arith}
 use borrow.Author.Needs.{needs}
 use Rattle.words.specs.Scan.{scan}
 use Rattle.words.proofs.Scan.{begin, turn, end}
-use Rattle.records.specs.declared.refusal.Verdict.the-variants.{Pass}
-use Rattle.payload.specs.Notes.{noteOk, one-note, noteRules}
-use Rattle.object.specs.Sections.{noEntry}
 use Rattle.words.proofs.Tests.{held, refuted}
+use Rattle.records.specs.declared.refusal.Verdict.the-variants.{Pass}
+use Rattle.object.specs.Sections.{noEntry}
+use Rattle.payload.specs.Notes.{noteOk, one-note, noteRules}
 use Rattle.payload.proofs.notes.check_notes.Statement.{statement}
 use Rattle.payload.proofs.notes.check_notes.Tie as tie
 
@@ -26,26 +26,27 @@ loop-holds c = (omega arith, begin _ _ _)
 returns : tie.Need-returns Inv-loop μ-loop
 unfolding noEntry
 returns c =
+    let kind = c .before .before .before .before in
+    let test = kind .before .before .before .before in
+    let right-note = c .before .before .note-ok .ensures ∙ ap noteOk (c .before .before .before .contents-of .ensures) in
     sym
-    (c .before .before .before .before .before .before .before .before .before .loop .inv .1
-    ∙ turn _ _ _ _ (c .before .before .before .before .before .before .before .before .loop-test .taken)
-    ∙ rw (
-      sym (c .before .before .before .before .before .is-note .ensures) ∙ c .before .before .before .before .if1 .taken,
-      refuted (c .before .before .note-ok .ensures ∙ ap noteOk (c .before .before .before .contents-of .ensures)) (c .before .if2 .taken),
-      c .refuse-at .ensures,
-    ))
+    (test .before .loop .inv .1
+    ∙ turn _ _ _ _ (test .loop-test .taken)
+    ∙ rw (sym (kind .before .is-note .ensures) ∙ kind .if1 .taken, refuted right-note (c .before .if2 .taken), c .refused .ensures))
 
 loop-again : tie.Need-loop-again Inv-loop μ-loop
 unfolding noEntry
-loop-again c = (
-  omega arith,
-  c .before .before .before .before .before .loop .inv .1
-      ∙ turn _ _ _ _ (c .before .before .before .before .loop-test .taken)
-      ∙ ⊎-elim
-      (λ w. rw (sym (c .before .is-note .ensures) ∙ w .0 .taken, held (w .2 .ensures ∙ ap noteOk (w .1 .ensures)) (w .3 .left)))
-      (λ w. rw (sym (c .before .is-note .ensures) ∙ w .left))
-      (c .if1 .came),
-)
+loop-again c =
+    let test = c .before .before .before .before in
+    let same-kind = sym (c .before .is-note .ensures) in (
+      omega arith,
+      test .before .loop .inv .1
+          ∙ turn _ _ _ _ (test .loop-test .taken)
+          ∙ ⊎-elim
+          (λ w. rw (same-kind ∙ w .0 .taken, held (w .2 .ensures ∙ ap noteOk (w .1 .ensures)) (w .3 .left)))
+          (λ w. rw (same-kind ∙ w .left))
+          (c .if1 .came),
+    )
 
 returns-2 : tie.Need-returns-2 Inv-loop μ-loop
 returns-2 c = sym (c .before .loop .inv .1 ∙ end _ _ _ _ (c .loop-test .left))

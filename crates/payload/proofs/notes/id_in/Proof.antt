@@ -1,11 +1,12 @@
 -- `id_in` meets its contract.
-use mathlib.Core.Path.{ap}
+use mathlib.Core.Path.{_≡_, ap}
 use native.Mathlib.Nat.{add-sub-cancel-left}
 use native.Mathlib.Omega.{arith}
 use borrow.Author.Needs.{needs}
 use lib.ListN.{length-take}
 use Rattle.words.specs.Splice.{part}
 use Rattle.elf.specs.declared.Note.{Note}
+use Rattle.payload.specs.Notes.{idLength}
 use Rattle.payload.proofs.NoteLaws.{id-by, note-ok-length}
 use Rattle.payload.proofs.notes.id_in.Statement.{statement}
 use Rattle.payload.proofs.notes.id_in.Tie as tie
@@ -13,12 +14,16 @@ use Rattle.payload.proofs.notes.id_in.Tie as tie
 read-note-requires : tie.Need-read-note-requires
 read-note-requires c κs = omega (arith, note-ok-length _ (c .before .pre))
 
+-- the length that was read is that of the note's id
+length-read : (c : tie.After-read-note) → c .read-note .result .«n_descsz» ≡ idLength (c .before .before .args .note .now)
+length-read c = ap (λ (h : Note). h .«n_descsz») (c .read-note .ensures .0)
+
 part-copy-end : tie.Need-part-copy-end
-part-copy-end c = omega (arith, note-ok-length _ (c .before .before .before .pre), ap (λ (h : Note). h .«n_descsz») (c .before .read-note .ensures .0))
+part-copy-end c = omega (arith, note-ok-length _ (c .before .before .before .pre), length-read (c .before))
 
 copy-requires : tie.Need-copy-requires
 copy-requires c κs =
-    rw length-take (omega (arith, note-ok-length _ (c .before .before .before .before .pre), ap (λ (h : Note). h .«n_descsz») (c .before .before .read-note .ensures .0)))
+    rw length-take (omega (arith, note-ok-length _ (c .before .before .before .before .pre), length-read (c .before .before)))
 
 returns : tie.Need-returns
 unfolding part

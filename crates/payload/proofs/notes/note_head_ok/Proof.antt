@@ -19,21 +19,26 @@ returns-3 c = rw (eq-eqb _ _ (c .before .before .before .before .if1 .left), le-
 returns-4 : tie.Need-returns-4
 unfolding noteHeadOk
 returns-4 c =
+    let short = c .before .before in
+    let long = short .before .before in
     rw (
-      eq-eqb _ _ (c .before .before .before .before .before .before .if1 .left),
-      le-leb _ _ (c .before .before .before .before .if2 .left),
-      le-leb _ _ (c .before .before .if3 .left),
+      eq-eqb _ _ (long .before .before .if1 .left),
+      le-leb _ _ (long .if2 .left),
+      le-leb _ _ (short .if3 .left),
       ne-eqb _ _ (c .if4 .taken),
     )
 
 returns-5 : tie.Need-returns-5
 unfolding noteHeadOk
 returns-5 c =
+    let typed = c .before in
+    let short = typed .before .before in
+    let long = short .before .before in
     rw (
-      eq-eqb _ _ (c .before .before .before .before .before .before .before .if1 .left),
-      le-leb _ _ (c .before .before .before .before .before .if2 .left),
-      le-leb _ _ (c .before .before .before .if3 .left),
-      eq-eqb _ _ (c .before .if4 .left),
+      eq-eqb _ _ (long .before .before .if1 .left),
+      le-leb _ _ (long .if2 .left),
+      le-leb _ _ (short .if3 .left),
+      eq-eqb _ _ (typed .if4 .left),
     )
 
 pub note-head-ok-spec : {M : Type 1} → statement M

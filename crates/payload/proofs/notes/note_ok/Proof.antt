@@ -1,9 +1,9 @@
 -- `note_ok` meets its contract: each test is the definition's, at the head that was read.
 use borrow.Author.Needs.{needs}
 use borrow.Author.Tests.{le-leb, lt-leb, eq-eqb, ne-eqb}
+use Rattle.words.proofs.Tests.{held, refuted}
 use Rattle.payload.specs.Notes.{noteOk}
 use Rattle.payload.proofs.NoteLaws.{ok-by, all-of-rest}
-use Rattle.words.proofs.Tests.{held, refuted}
 use Rattle.payload.proofs.notes.note_ok.Statement.{statement}
 use Rattle.payload.proofs.notes.note_ok.Tie as tie
 
@@ -12,24 +12,29 @@ unfolding noteOk
 returns c = simp (lt-leb _ _ (c .if1 .taken))
 
 returns-2 : tie.Need-returns-2
-returns-2 c = rw (ok-by _ (c .before .before .read-note .ensures .0), le-leb _ _ (c .before .before .before .if1 .left), refuted (c .before .note-head-ok .ensures) (c .if2 .taken))
+returns-2 c =
+    let head = c .before .before in
+    rw (ok-by _ (head .read-note .ensures .0), le-leb _ _ (head .before .if1 .left), refuted (c .before .note-head-ok .ensures) (c .if2 .taken))
 
 returns-3 : tie.Need-returns-3
 returns-3 c =
+    let head = c .before .before .before in
     rw (
-      ok-by _ (c .before .before .before .read-note .ensures .0),
-      le-leb _ _ (c .before .before .before .before .if1 .left),
+      ok-by _ (head .read-note .ensures .0),
+      le-leb _ _ (head .before .if1 .left),
       held (c .before .before .note-head-ok .ensures) (c .before .if2 .left),
       ne-eqb _ _ (c .if3 .taken),
     )
 
 returns-4 : tie.Need-returns-4
 returns-4 c =
+    let sized = c .before .before in
+    let head = sized .before .before .before in
     rw (
-      ok-by _ (c .before .before .before .before .before .read-note .ensures .0),
-      le-leb _ _ (c .before .before .before .before .before .before .if1 .left),
-      held (c .before .before .before .before .note-head-ok .ensures) (c .before .before .before .if2 .left),
-      eq-eqb _ _ (c .before .before .if3 .left),
+      ok-by _ (head .read-note .ensures .0),
+      le-leb _ _ (head .before .if1 .left),
+      held (sized .before .before .note-head-ok .ensures) (sized .before .if2 .left),
+      eq-eqb _ _ (sized .if3 .left),
       c .all-zero .ensures,
       all-of-rest,
     )

@@ -7,12 +7,12 @@ use native.Mathlib.Omega.{arith}
 use borrow.Author.Needs.{needs}
 use Rattle.words.specs.Scan.{scan}
 use Rattle.words.proofs.Scan.{begin, turn, end}
+use Rattle.words.proofs.Tests.{held, refuted}
 use Rattle.records.specs.declared.refusal.Verdict.the-variants.{Pass}
-use Rattle.payload.specs.RelocationHeaders.{one-relocation-header, relocationHeaderRules}
 use Rattle.object.specs.Sections.{sectionIn, noEntry}
 use Rattle.object.specs.declared.kinds.Kind.the-variants.{Relocations}
 use Rattle.object.proofs.Arms.{this-kind, other-kind}
-use Rattle.words.proofs.Tests.{held, refuted}
+use Rattle.payload.specs.RelocationHeaders.{one-relocation-header, relocationHeaderRules}
 use Rattle.payload.proofs.relocation_headers.check_relocation_headers.Statement.{statement}
 use Rattle.payload.proofs.relocation_headers.check_relocation_headers.Tie as tie
 
@@ -31,15 +31,16 @@ loop-holds c = (omega arith, begin _ _ _)
 returns : tie.Need-returns Inv-loop μ-loop
 unfolding noEntry
 returns c =
-    let loop = c .before .before .before .before .before .before .before in
-    let kind = sectionIn (loop .before .args .t1) (loop .loop .i) .kind in
+    let arm = c .before .before .before .before in
+    let test = arm .before .before in
+    let kind = sectionIn (test .before .before .args .t1) (test .before .loop .i) .kind in
     sym
-    (loop .loop .inv .1
-    ∙ turn _ _ _ _ (c .before .before .before .before .before .before .loop-test .taken)
+    (test .before .loop .inv .1
+    ∙ turn _ _ _ _ (test .loop-test .taken)
     ∙ rw (
-      this-kind kind Relocations (c .before .before .before .before .match .keys1),
+      this-kind kind Relocations (arm .match .keys1),
       refuted (c .before .before .relocation-header-ok .ensures) (c .before .if1 .taken),
-      c .refuse-at .ensures,
+      c .refused .ensures,
     ))
 
 -- the numbers of the kinds but Relocations
@@ -49,11 +50,11 @@ others = 0 ∷ 1 ∷ 2 ∷ 3 ∷ 4 ∷ 5 ∷ 6 ∷ 7 ∷ 9 ∷ 10 ∷ []
 loop-again : tie.Need-loop-again Inv-loop μ-loop
 unfolding noEntry others
 loop-again c =
-    let loop = c .before .before .before in
-    let kind = sectionIn (loop .before .args .t1) (loop .loop .i) .kind in (
+    let test = c .before .before in
+    let kind = sectionIn (test .before .before .args .t1) (test .before .loop .i) .kind in (
       omega arith,
-      loop .loop .inv .1
-          ∙ turn _ _ _ _ (c .before .before .loop-test .taken)
+      test .before .loop .inv .1
+          ∙ turn _ _ _ _ (test .loop-test .taken)
           ∙ ⊎-elim
           (λ w. rw (this-kind kind Relocations (w .0 .keys1), held (w .2 .ensures) (w .3 .left)))
           (λ w. rw (other-kind kind others (w .keys2) Relocations tt))

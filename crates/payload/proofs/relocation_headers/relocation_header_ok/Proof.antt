@@ -1,8 +1,8 @@
 -- `relocation_header_ok` meets its contract.
 use borrow.Author.Needs.{needs}
 use borrow.Author.Tests.{lt-ltb, le-ltb, eq-eqb, ne-eqb}
-use Rattle.payload.specs.RelocationHeaders.{relocationHeaderOk}
 use Rattle.object.specs.Sections.{noEntry}
+use Rattle.payload.specs.RelocationHeaders.{relocationHeaderOk}
 use Rattle.payload.proofs.relocation_headers.relocation_header_ok.Statement.{statement}
 use Rattle.payload.proofs.relocation_headers.relocation_header_ok.Tie as tie
 
@@ -16,21 +16,33 @@ returns-2 c = simp (eq-eqb _ _ (c .before .before .if1 .left), ne-eqb _ _ (c .if
 
 returns-3 : tie.Need-returns-3
 unfolding relocationHeaderOk
-returns-3 c = simp (eq-eqb _ _ (c .before .before .before .before .if1 .left), eq-eqb _ _ (c .before .before .if2 .left), ne-eqb _ _ (c .if3 .taken))
+returns-3 c =
+    let sized = c .before .before in
+    simp (eq-eqb _ _ (sized .before .before .if1 .left), eq-eqb _ _ (sized .if2 .left), ne-eqb _ _ (c .if3 .taken))
 
 returns-4 : tie.Need-returns-4
 unfolding relocationHeaderOk
 returns-4 c =
-    simp (eq-eqb _ _ (c .before .before .before .before .before .if1 .left), eq-eqb _ _ (c .before .before .before .if2 .left), eq-eqb _ _ (c .before .if3 .left), le-ltb _ _ (c .if4 .taken))
+    let whole = c .before in
+    let sized = whole .before .before in
+    simp (
+      eq-eqb _ _ (sized .before .before .if1 .left),
+      eq-eqb _ _ (sized .if2 .left),
+      eq-eqb _ _ (whole .if3 .left),
+      le-ltb _ _ (c .if4 .taken),
+    )
 
 returns-5 : tie.Need-returns-5
 unfolding relocationHeaderOk noEntry
 returns-5 c =
+    let inside = c .before .before in
+    let whole = inside .before in
+    let sized = whole .before .before in
     simp (
-      eq-eqb _ _ (c .before .before .before .before .before .before .before .if1 .left),
-      eq-eqb _ _ (c .before .before .before .before .before .if2 .left),
-      eq-eqb _ _ (c .before .before .before .if3 .left),
-      lt-ltb _ _ (c .before .before .if4 .left),
+      eq-eqb _ _ (sized .before .before .if1 .left),
+      eq-eqb _ _ (sized .if2 .left),
+      eq-eqb _ _ (whole .if3 .left),
+      lt-ltb _ _ (inside .if4 .left),
       c .is-target .ensures,
     )
 
@@ -40,6 +52,7 @@ relocation-header-ok-spec =
     (tie.spec
     returns
     returns-2
+    (λ c. search needs)
     returns-3
     returns-4
     (λ c. search needs)

@@ -1,72 +1,203 @@
 -- `relocate` meets its contract: at each turn the sections from `i` on, over the bytes as they are, give what all of them give.
-use Prim.Native.Nat.{_-_, _≤_}
+use Prim.Native.Nat.{_+_, _-_, _≤_}
 use mathlib.Core.Path.{_≡_, refl, sym, _∙_}
+use mathlib.Core.Bool.{true}
+use mathlib.Core.List.{List}
+use mathlib.Core.Logic.{⊎-elim}
 use native.Mathlib.Nat.{le-trans}
 use native.Mathlib.Omega.{arith}
 use borrow.Author.Needs.{needs}
 use lib.ListN.{length}
-use Rattle.relocation.specs.Relocating.{linkingOf, relocateFrom, relocateAll}
-use Rattle.linking.specs.Resolved.{Given}
-use Rattle.relocation.proofs.RelocateLaws.{contents-short, sections-turn, sections-end}
+use Rattle.records.specs.declared.refusal.Verdict.the-variants.{Pass}
+use Rattle.machine.specs.Host.{hostMachine}
+use Rattle.object.specs.Sections.{sectionIn, noEntry}
+use Rattle.object.specs.declared.sections.SectionEntry.{SectionEntry}
+use Rattle.linking.specs.Kept.{Kept}
+use Rattle.linking.specs.Linking.{Linking}
+use Rattle.relocation.specs.Relocating.{
+  Relocated,
+  relocated,
+  continue,
+  isRelocating,
+  relocateSection,
+  relocateFrom,
+  relocateAll,
+  linkingOf,
+  Given,
+}
+use Rattle.relocation.proofs.RelocateLaws.{relocating-kind, contents-short, section-made, section-passed, sections-turn, sections-end}
 use Rattle.relocation.proofs.relocate.relocate.Statement.{statement}
 use Rattle.relocation.proofs.relocate.relocate.Tie as tie
 
 abbrev Inv-loop : tie.InvT-loop
-Inv-loop image₀ file table count symbols base offsets limits list resolved i₀ image i =
-    let l = linkingOf base file table count symbols offsets limits list in
-    (i ≤ count)
+Inv-loop image₀ file list host reading layout table count symbols link strings cells₀ i₀ image cells i =
+    let l = linkingOf host file reading list in
+    (i ≤ reading .count)
     × (length image ≡ length image₀)
-    × (relocateAll l file table count image₀ ≡ relocateFrom l file table i (count - i) image)
+    × (relocateAll (hostMachine host) l file image₀ ≡ relocateFrom (hostMachine host) l file i (reading .count - i) image)
+    × Kept l cells
 
 abbrev μ-loop : tie.MeasureT-loop
-μ-loop image₀ file table count symbols base offsets limits list resolved i₀ image i = count - i
+μ-loop image₀ file list host reading layout table count symbols link strings cells₀ i₀ image cells i = reading .count - i
 
-resolve-symbols-requires : tie.Need-resolve-symbols-requires Inv-loop μ-loop
-resolve-symbols-requires c κs =
-    let pre = c .before .before .before .before .before .pre in
-    rw (pre .whole) at pre
+mul-string-entry : tie.Need-mul-string-entry Inv-loop μ-loop
+unfolding noEntry
+mul-string-entry c = omega arith
 
--- what the symbols were resolved to is what each section is given
+array-copy-out-string-entry : tie.Need-array-copy-out-string-entry Inv-loop μ-loop
+unfolding noEntry
+array-copy-out-string-entry c = omega arith
+
+read-symbols-requires : tie.Need-read-symbols-requires Inv-loop μ-loop
+unfolding noEntry
+read-symbols-requires c κs =
+    let pre = c .before .before .before .before .before .before .before .before .before .pre in
+    rw (c .contents-of2 .ensures) (le-trans (contents-short _ _) (pre .0 .short))
+
+-- ---- the symbols
+
+abbrev start : tie.After-read-symbols Inv-loop μ-loop → tie.Start Inv-loop μ-loop
+start c = c .before .before .before .before .before .before .before .before .before .before
+
+-- what the payload is linked against
+abbrev against : tie.After-read-symbols Inv-loop μ-loop → Linking
+against c =
+    let a = start c .args in
+    linkingOf (a .host) (a .file .now) (a .reading) (a .list .now)
+
+-- the cells that were read stand for its symbols
+kept : (c : tie.After-read-symbols Inv-loop μ-loop) → Kept (against c) (c .read-symbols .result)
+unfolding noEntry
+kept c =
+    let pre = start c .pre in
+    c .read-symbols .ensures (against c)
+    (record { address = refl; few = pre .0 .few; places = sym (pre .1) })
+    (sym (c .before .contents-of2 .ensures))
+
+-- what each section is given of it
 given :
-    (c : tie.After-resolve-symbols Inv-loop μ-loop) →
-    let a = c .before .before .before .before .before .before .args in
-    Given (linkingOf (a .base) (a .file .now) (a .table) (a .count) (a .symbols) (a .offsets .now) (a .limits .now) (a .list .now))
-    (a .base) (a .offsets .now) (c .resolve-symbols .result .values) (c .resolve-symbols .result .faults)
-given c =
-    let short = le-trans (contents-short _ _) (c .before .before .before .before .before .before .pre .short) in
-    record { address = refl; places = refl; symbols = record { short = short; same = c .resolve-symbols .ensures } }
+    (c : tie.At-loop Inv-loop μ-loop) →
+    let a = start (c .before) .args in
+    Given (against (c .before)) (a .host) (c .loop .cells) (c .before .before .before .contents-of .result .now) (a .list .now)
+unfolding noEntry
+given c = record {
+  address = refl;
+  sought = record { kept = c .loop .inv .3; names = sym (c .before .before .before .contents-of .ensures); listed = refl };
+}
 
 loop-holds : tie.Need-loop-holds Inv-loop μ-loop
 unfolding relocateAll
 loop-holds c =
-    let count = c .before .before .before .before .before .before .args .count in
+    let count = start c .args .reading .count in
     let all : count - 0 ≡ count = omega arith in
-    (omega arith, refl, rw all)
+    (omega arith, refl, rw all, kept c)
 
-relocate-section-requires : tie.Need-relocate-section-requires Inv-loop μ-loop
-relocate-section-requires c κs =
-    let test = c .before .before .before .before in
-    let pre = test .before .before .before .before .before .before .before .before .pre in
-    let linkable = rw (← test .before .loop .inv .1) at pre in
-    ((_, _, _, linkable, test .loop-test .taken), (_, given (test .before .before)))
+-- ---- the section in turn
+
+abbrev sections : tie.In-loop Inv-loop μ-loop → List SectionEntry
+sections c = start (c .before .before) .args .reading .sections
+
+abbrev section : tie.In-loop Inv-loop μ-loop → SectionEntry
+section c = sectionIn (sections c) (c .before .loop .i)
+
+-- what it gives
+abbrev gives : tie.In-loop Inv-loop μ-loop → Relocated
+gives c =
+    let a = start (c .before .before) .args in
+    relocateSection (hostMachine (a .host)) (against (c .before .before)) (a .file .now) (c .before .loop .i) (c .before .loop .image)
+
+-- all sections give what it and those after it give
+turn :
+    (c : tie.In-loop Inv-loop μ-loop) →
+    let a = start (c .before .before) .args in
+    let from = relocateFrom (hostMachine (a .host)) (against (c .before .before)) (a .file .now) in
+    let i = c .before .loop .i in
+    relocateAll (hostMachine (a .host)) (against (c .before .before)) (a .file .now) (a .image .now)
+    ≡ continue (gives c) (from (i + 1) (a .reading .count - (i + 1)))
+turn c = c .before .loop .inv .2 ∙ sections-turn _ _ _ _ _ _ (c .loop-test .taken)
+
+is-relocating-requires : tie.Need-is-relocating-requires Inv-loop μ-loop
+unfolding noEntry
+is-relocating-requires c κs =
+    let this = c .before in
+    let linkable = start (this .before .before) .pre .0 in
+    λ kind. omega (arith, linkable .few, linkable .targets _ (this .loop-test .taken) kind)
+
+-- past the test its relocations are made
+made : (c : tie.Then1 Inv-loop μ-loop) → let this = c .before .before .before in isRelocating (sections this) (section this) ≡ true
+unfolding noEntry
+made c = sym (c .before .is-relocating .ensures) ∙ c .if1 .taken
+
+area-of-requires : tie.Need-area-of-requires Inv-loop μ-loop
+area-of-requires c κs =
+    let this = c .before .before .before in
+    let pre = start (this .before .before) .pre in
+    let below = this .loop-test .taken in
+    ((pre .0 .few, below), (pre .0 .targets _ below (relocating-kind _ _ (made c)), pre .1))
+
+slice-aggregate-relocate-entries : tie.Need-slice-aggregate-relocate-entries Inv-loop μ-loop
+slice-aggregate-relocate-entries c =
+    let loop = c .before .before .before .before .before .before .before .before in
+    sym (loop .loop .inv .3 .all)
+
+relocate-entries-requires : tie.Need-relocate-entries-requires Inv-loop μ-loop
+unfolding noEntry
+relocate-entries-requires c κs =
+    let contents = c .before .before in
+    let tested = contents .before .before in
+    let this = tested .before .before .before in
+    let linkable = start (this .before .before) .pre .0 in (
+      (
+        this .before .loop .inv .1 ∙ linkable .whole,
+        rw (contents .before .area-of .ensures) (linkable .inside _ (this .loop-test .taken) (made tested)),
+        rw (contents .contents-of3 .ensures) (le-trans (contents-short _ _) (linkable .short)),
+      ),
+      (_, given (this .before)),
+    )
 
 returns : tie.Need-returns Inv-loop μ-loop
+unfolding noEntry
 returns c =
-    let test = c .before .before .before .before .before .before .before .before .before in
-    sym
-    (test .before .loop .inv .2
-    ∙ sections-turn _ _ _ _ _ _ (test .loop-test .taken)
-    ∙ rw (← c .before .before .before .before .relocate-section .ensures _ (given (test .before .before)), c .enum-told .given .1))
+    let left = c .before .before .before .before .before in
+    let contents = left .before .before .before in
+    let tested = contents .before .before in
+    let this = tested .before .before .before in
+    let gave = left .relocate-entries .ensures _ (given (this .before)) .0 in
+    let refused = section-made _ _ _ _ _ (made tested) (contents .before .area-of .ensures) (contents .contents-of3 .ensures) gave in
+    sym (turn this ∙ rw (refused, c .enum-told .given .1))
+
+-- where nothing was refused: the bytes' length, what the section gives, and the cells
+passed :
+    (c : tie.Joined1 Inv-loop μ-loop) →
+    let this = c .before .before .before in
+    (length (c .if1 .image) ≡ length (this .before .loop .image))
+    × (gives this ≡ relocated Pass (c .if1 .image))
+    × Kept (against (this .before .before)) (c .if1 .cells)
+unfolding noEntry
+passed c =
+    let loop = c .before .before .before .before in
+    let tested = sym (c .before .is-relocating .ensures) in
+    ⊎-elim
+    (λ w.
+    let area = w .1 in
+    let contents = w .2 in
+    let entries = w .5 in
+    let told = w .10 in
+    let gave = entries .ensures _ (given loop) in
+    rw (w .11, w .12) (
+      entries .kept .0,
+      section-made _ _ _ _ _ (tested ∙ w .0 .taken) (area .ensures) (contents .ensures) (gave .0) ∙ rw (told .given .1),
+      gave .1,
+    ))
+    (λ w. rw (w .1, w .2) (refl, section-passed _ _ _ _ _ (tested ∙ w .0 .left), loop .loop .inv .3))
+    (c .if1 .came)
 
 loop-again : tie.Need-loop-again Inv-loop μ-loop
 loop-again c =
-    let test = c .before .before .before .before .before .before .before .before .before in (
-      omega arith,
-      omega arith,
-      test .before .loop .inv .2
-          ∙ sections-turn _ _ _ _ _ _ (test .loop-test .taken)
-          ∙ rw (← c .before .before .before .before .relocate-section .ensures _ (given (test .before .before)), c .enum-told2 .given .1),
-    )
+    let this = c .before .before .before in
+    (omega arith, passed c .0 ∙ this .before .loop .inv .1, turn this ∙ rw (passed c .1), passed c .2)
+
+-- ---- the end
 
 returns-2 : tie.Need-returns-2 Inv-loop μ-loop
 returns-2 c = sym (c .before .loop .inv .2 ∙ sections-end _ _ _ _ _ _ (c .loop-test .left))
@@ -77,9 +208,21 @@ relocate-spec =
     (tie.spec
     Inv-loop
     μ-loop
-    resolve-symbols-requires
+    (λ c. omega arith)
+    (λ c. omega arith)
+    mul-string-entry
+    array-copy-out-string-entry
+    (λ c κs. search needs)
+    (λ c κs. search needs)
+    read-symbols-requires
     loop-holds
-    relocate-section-requires
+    (λ c. omega arith)
+    (λ c. omega arith)
+    is-relocating-requires
+    area-of-requires
+    (λ c κs. search needs)
+    slice-aggregate-relocate-entries
+    relocate-entries-requires
     (λ c. search needs)
     (λ c. omega arith)
     returns

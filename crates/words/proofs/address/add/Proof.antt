@@ -1,12 +1,12 @@
 -- `words::address::add` meets its contract: what the wrapping sum ensures is the definition.
 use native.Mathlib.Omega.{arith}
 use borrow.Author.Needs.{needs}
-use Rattle.words.specs.Address.{sum}
+use Rattle.words.specs.Address.{wrappingSum}
 use Rattle.words.proofs.address.add.Statement.{statement}
 use Rattle.words.proofs.address.add.Tie as tie
 
 returns : tie.Need-returns
-unfolding sum
+unfolding wrappingSum
 returns c = omega arith
 
 pub add-spec : {M : Type 1} → statement M

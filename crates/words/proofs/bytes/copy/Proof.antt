@@ -1,41 +1,26 @@
--- `bytes::copy` meets its contract: the invariant is that the first `i` bytes are laid, `paste` of `lib.Seq`.
-use Prim.Native.Nat.{_≤_, _<_, _+_, _-_}
-use mathlib.Core.Path.{_≡_, _∙_}
-use native.Mathlib.Numerals.{add-one}
+-- `bytes::copy` meets its contract: the first `i` bytes are written.
+use Prim.Native.Nat.{_-_}
+use mathlib.Core.Path.{refl}
 use native.Mathlib.Omega.{arith}
-use lib.ListN.{length, length-set}
-use lib.Seq.{paste, paste-zero, paste-suc, take-length}
-use Rattle.words.specs.Splice.{splice}
+use lib.ListN.{length}
+use Rattle.words.proofs.Written.{Written, written-none, written-more, written-all}
 use Rattle.words.proofs.bytes.copy.Statement.{statement}
 use Rattle.words.proofs.bytes.copy.Tie as tie
 
 abbrev Inv-loop : tie.InvT-loop
-Inv-loop s₀ at new i₀ s i = (i ≤ length new) × (s ≡ paste s₀ at new i) × (length s ≡ length s₀)
+Inv-loop s₀ at new i₀ s i = Written s₀ at new i s
 
 abbrev μ-loop : tie.MeasureT-loop
 μ-loop s₀ at new i₀ s i = length new - i
 
 loop-holds : tie.Need-loop-holds Inv-loop μ-loop
-loop-holds c = (omega arith, paste-zero (c .args .s .now) (c .args .at) (c .args .new .now), omega arith)
+loop-holds c = written-none _ _ _
 
 loop-again : tie.Need-loop-again Inv-loop μ-loop
-loop-again c =
-    let l = c .before .before .loop in
-    let a = c .before .before .before .args in
-    let room : a .at + l .i < length (a .s .now) = omega arith in
-    let more : l .i < length (a .new .now) = omega arith in (
-      omega arith,
-      rw (add-one, l .inv .1) (paste-suc (a .s .now) (a .at) (a .new .now) (l .i) 0 room more),
-      simp length-set (omega arith),
-    )
+loop-again c = written-more _ _ _ _ (c .before .before .loop .inv) _ (omega arith) (omega arith) refl
 
 returns : tie.Need-returns Inv-loop μ-loop
-unfolding splice
-returns c =
-    let l = c .before .loop in
-    let a = c .before .before .args in
-    let all : l .i ≡ length (a .new .now) = omega arith in
-    l .inv .1 ∙ rw (all, take-length)
+returns c = written-all _ _ _ _ (c .before .loop .inv) (omega arith)
 
 pub copy-spec : {M : Type 1} → statement M
 copy-spec =
