@@ -1,66 +1,48 @@
-/* prepare PAYLOAD SYMBOLS TEXT_BASE TEXT_LEN SLOT_BASE: what the payload would place and change, or which rule it breaks and where.
- * The numbers are hexadecimal. Exit status 1 where it is refused.
+/* prepare PAYLOAD SYMBOLS TEXT_BASE TEXT_LEN SLOT_BASE: what the payload would place and change, or why it is refused and where.
+ * The numbers are hexadecimal. Exit status 1 where it is refused, 2 where an argument is missing, no number or no file.
  *
- *   rt staticlib abi
- *   cc -Iinclude examples/prepare.c target/staticlib/libabi.a -o target/prepare
+ *   ./build
+ *   cc -Iinclude examples/prepare.c target/lib/liburddolwy.a -o target/prepare
  */
-#include "urddolwy.h"
+#include "common.h"
 
-#include <stdio.h>
-#include <stdlib.h>
+#include <ctype.h>
 
-struct bytes {
-    uint8_t *at;
-    size_t len;
-};
+static const char *const arguments[] = {"prepare", "PAYLOAD", "SYMBOLS", "TEXT_BASE", "TEXT_LEN", "SLOT_BASE"};
 
-static struct bytes read_file(const char *name)
+/* An argument as a hexadecimal number of 64 bits; where it is none, says so and ends with status 2. */
+static uint64_t hexadecimal(char **argv, int index)
 {
-    struct bytes b = {NULL, 0};
-    FILE *f = fopen(name, "rb");
-    if (f == NULL || fseek(f, 0, SEEK_END) != 0) {
-        perror(name);
+    char *end;
+    errno = 0;
+    unsigned long long x = strtoull(argv[index], &end, 16);
+    /* strtoull also takes spaces and signs before a number */
+    if (!isxdigit((unsigned char)argv[index][0]) || *end != '\0' || errno != 0) {
+        fprintf(stderr, "prepare: %s is '%s', which is no hexadecimal number of 64 bits\n", arguments[index], argv[index]);
         exit(2);
     }
-    long end = ftell(f);
-    rewind(f);
-    b.at = malloc(end > 0 ? (size_t)end : 1);
-    if (b.at == NULL || end < 0 || fread(b.at, 1, (size_t)end, f) != (size_t)end) {
-        perror(name);
-        exit(2);
-    }
-    b.len = (size_t)end;
-    fclose(f);
-    return b;
-}
-
-static uint64_t little(const uint8_t *at, int n)
-{
-    uint64_t x = 0;
-    while (n-- > 0)
-        x = x << 8 | at[n];
     return x;
 }
 
-static void hex(const uint8_t *at, size_t n)
+static void print_hex(const uint8_t *at, size_t n)
 {
     for (size_t i = 0; i < n; i++)
         printf(" %02x", at[i]);
     printf("\n");
 }
 
-static void say_accepted(const uint8_t *edits, const uint8_t *summary)
+static void print_accepted(const uint8_t *edits, const uint8_t *summary)
 {
     unsigned count = (unsigned)little(summary + 4, 4);
-    printf("accepted: %u bytes placed, %u edits\n", (unsigned)little(summary, 4), count);
+    printf("accepted: %u bytes placed, %u edit%s\n", (unsigned)little(summary, 4), count, count == 1 ? "" : "s");
     printf("id");
-    hex(summary + 16, little(summary + 8, 4));
+    print_hex(summary + 16, little(summary + 8, 4));
     printf("depends on");
-    hex(summary + 48, little(summary + 12, 4));
+    print_hex(summary + 48, little(summary + 12, 4));
     for (unsigned i = 0; i < count; i++) {
         const uint8_t *e = edits + i * URDDOLWY_EDIT_SIZE;
         printf("edit at %llx:", (unsigned long long)little(e, 8));
-        hex(e + 12, little(e + 8, 4));
+        print_hex(e + 12, little(e + 8, 4));
     }
 }
 
@@ -73,14 +55,19 @@ int main(int argc, char **argv)
         fprintf(stderr, "usage: prepare PAYLOAD SYMBOLS TEXT_BASE TEXT_LEN SLOT_BASE\n");
         return 2;
     }
-    struct bytes file = read_file(argv[1]);
-    struct bytes list = read_file(argv[2]);
-    uint64_t answer = urddolwy_prepare(file.at, file.len, list.at, list.len, strtoull(argv[3], NULL, 16), strtoull(argv[4], NULL, 16),
-                                       strtoull(argv[5], NULL, 16), image, sizeof image, edits, sizeof edits, summary, sizeof summary);
-    if (answer == 0)
-        say_accepted(edits, summary);
-    else
-        printf("refused with %u, place %u: %u %u\n", URDDOLWY_NUMBER(answer), URDDOLWY_PLACE(answer), URDDOLWY_FIRST(answer),
-               URDDOLWY_SECOND(answer));
+    uint64_t text_base = hexadecimal(argv, 3), text_len = hexadecimal(argv, 4), slot_base = hexadecimal(argv, 5);
+    struct bytes file = read_file(argv[1]), list = read_file(argv[2]);
+    uint64_t answer = urddolwy_prepare(file.at, file.len, list.at, list.len, text_base, text_len, slot_base, image, sizeof image,
+                                       edits, sizeof edits, summary, sizeof summary);
+    uint64_t of_file = urddolwy_check_file(file.at, file.len);
+    if (answer == 0) {
+        print_accepted(edits, summary);
+    } else if (urddolwy_check_symbols(list.at, list.len) != 0) {
+        printf("refused with %u: %s is no symbol list\n", URDDOLWY_NUMBER(answer), argv[2]);
+    } else if (URDDOLWY_PLACE(answer) == URDDOLWY_NOWHERE && answer != of_file) {
+        printf("refused with %u: there can be no such text, or no such slot\n", URDDOLWY_NUMBER(answer));
+    } else {
+        print_refusal(stdout, file, answer);
+    }
     return answer != 0;
 }

@@ -2,7 +2,7 @@
 //! passes as a pointer and a length.
 #![allow(dead_code)] // not every program calls all three
 
-#[link(name = "abi", kind = "static")]
+#[link(name = "urddolwy", kind = "static")]
 extern "C" {
     fn urddolwy_check_symbols(list: *const u8, list_len: usize) -> u64;
     fn urddolwy_check_file(file: *const u8, file_len: usize) -> u64;

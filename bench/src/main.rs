@@ -9,9 +9,8 @@ use differential::second::refusal::in_words;
 use differential::second::{self, Surroundings};
 use largest::{payload, Shape, BY_NAME, LARGEST, RECORDS, SYMBOLS};
 use std::cell::RefCell;
-use std::hint::black_box;
 use std::process::ExitCode;
-use timing::{alternate, Times};
+use timing::{alternate, black_box, Times};
 
 type Buffers = [Vec<u8>; 3];
 
@@ -82,6 +81,24 @@ fn print_part(name: &str, times: &[Times; 2]) {
     println!("  {name:<56} {library:>9.1} {second:>9.1} {by_medians:>7.2} {by_least:>7.2}");
 }
 
+/// The payloads that are timed, the largest first.
+fn shapes() -> [(&'static str, Shape); 7] {
+    let few = Shape { runs: [0, 0], ..LARGEST };
+    let absolute = Shape { undefined: 0, ..LARGEST };
+    // so few that the relocations ask for about as many names as there are undefined symbols in the largest
+    let once = Shape { undefined: 9, ..LARGEST };
+    let short = Shape { names: SYMBOLS / 2 + BY_NAME, ..LARGEST };
+    [
+        ("prepare", LARGEST),
+        ("prepare, the records' relocations only", few),
+        ("prepare, undefined symbols made absolute", absolute),
+        ("prepare, all but 9 undefined symbols made absolute", once),
+        ("prepare, a list of the names that are used only", short),
+        ("prepare, such a list and absolute symbols", Shape { undefined: 0, ..short }),
+        ("prepare, such a list and the records' relocations only", Shape { runs: [0, 0], ..short }),
+    ]
+}
+
 fn print_parts(input: &Input, rounds: usize) -> Result<(), String> {
     println!("medians of parts, in us:{:>44} {:>9} {:>7} {:>7}", "proved", "second", "ratio", "least");
     let mut nothing = || ();
@@ -91,21 +108,7 @@ fn print_parts(input: &Input, rounds: usize) -> Result<(), String> {
     let mut check = || library::check_file(black_box(&input.file));
     let mut second_check = || second::check_file(black_box(&input.file));
     print_part("check_file", &alternate(rounds, &mut nothing, &mut check, &mut second_check));
-    let few = Shape { runs: [0, 0], ..LARGEST };
-    let absolute = Shape { undefined: 0, ..LARGEST };
-    // so few that the relocations ask for about as many names as there are undefined symbols in the largest
-    let once = Shape { undefined: 9, ..LARGEST };
-    let short = Shape { names: SYMBOLS / 2 + BY_NAME, ..LARGEST };
-    let parts = [
-        ("prepare", LARGEST),
-        ("prepare, the records' relocations only", few),
-        ("prepare, undefined symbols made absolute", absolute),
-        ("prepare, all but 9 undefined symbols made absolute", once),
-        ("prepare, a list of the names that are used only", short),
-        ("prepare, such a list and absolute symbols", Shape { undefined: 0, ..short }),
-        ("prepare, such a list and the records' relocations only", Shape { runs: [0, 0], ..short }),
-    ];
-    for (name, shape) in parts {
+    for (name, shape) in shapes() {
         let input = payload(&shape);
         agree(&input).map_err(|words| format!("{name}: {words}"))?;
         print_part(name, &prepare_times(&input, rounds, false));
@@ -113,25 +116,45 @@ fn print_parts(input: &Input, rounds: usize) -> Result<(), String> {
     Ok(())
 }
 
-/// The number of rounds and whether the parts are timed too, from the words of the command.
-fn words() -> Result<(usize, bool), String> {
-    let (mut rounds, mut parts) = (400, false);
+/// What the words of the command ask for.
+struct Wanted {
+    rounds: usize,
+    /// Whether the parts are timed too.
+    parts: bool,
+    /// Whether every payload is prepared once by both and nothing is timed.
+    check: bool,
+}
+
+fn words() -> Result<Wanted, String> {
+    let mut wanted = Wanted { rounds: 400, parts: false, check: false };
     let mut words = std::env::args().skip(1);
     while let Some(word) = words.next() {
         match word.as_str() {
-            "--parts" => parts = true,
+            "--parts" => wanted.parts = true,
+            "--check" => wanted.check = true,
             "--rounds" => {
                 let number = words.next().and_then(|number| number.parse().ok()).filter(|number| *number >= 200);
-                rounds = number.ok_or("--rounds takes a number from 200 on")?;
+                wanted.rounds = number.ok_or("--rounds takes a number from 200 on")?;
             }
-            _ => return Err(format!("{word} is not known; there are --rounds N and --parts")),
+            _ => return Err(format!("{word} is not known; there are --rounds N, --parts and --check")),
         }
     }
-    Ok((rounds, parts))
+    Ok(wanted)
+}
+
+fn check() -> Result<(), String> {
+    for (name, shape) in shapes() {
+        agree(&payload(&shape)).map_err(|words| format!("{name}: {words}"))?;
+    }
+    println!("{} payloads: both loaders accept each, with the same buffers", shapes().len());
+    Ok(())
 }
 
 fn run() -> Result<(), String> {
-    let (rounds, parts) = words()?;
+    let Wanted { rounds, parts, check: only_check } = words()?;
+    if only_check {
+        return check();
+    }
     let input = payload(&LARGEST);
     let Shape { names, undefined, .. } = LARGEST;
     let (file, list, relocations) = (input.file.len(), input.list.len(), LARGEST.relocations());

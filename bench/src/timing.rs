@@ -1,7 +1,5 @@
 //! Two calls timed in turn, by the time that the thread has on a CPU, so that other work of the machine counts little.
 
-use std::hint::black_box;
-
 /// Linux on x86-64.
 #[repr(C)]
 struct Timespec {
@@ -31,6 +29,16 @@ impl Times {
     /// The time that a share of the rounds, in percent, did not exceed: 0 is the least, 50 the median.
     pub fn at(&self, percent: usize) -> u64 {
         self.0[(self.0.len() - 1) * percent / 100]
+    }
+}
+
+/// The value itself, by a way that the compiler does not see through: no call is left out or moved out of its round.
+pub fn black_box<T>(value: T) -> T {
+    // SAFETY: the one value is read, and then forgotten where it stood.
+    unsafe {
+        let read = std::ptr::read_volatile(&value);
+        std::mem::forget(value);
+        read
     }
 }
 

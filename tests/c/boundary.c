@@ -114,6 +114,11 @@ static void preparations(void)
     refused("a text too long", file, 63, 33, text + 1, slot, URDDOLWY_IMAGE_SIZE, 22);
     refused("a slot at 0", file, 63, 33, text, 0, URDDOLWY_IMAGE_SIZE, 22);
     refused("a slot past the last address", file, 63, 33, text, UINT64_MAX - 8190, URDDOLWY_IMAGE_SIZE, 22);
+    refused("a slot at no multiple of 4,096", file, 63, 33, text, slot + 2048, URDDOLWY_IMAGE_SIZE, 22);
+    refused("a slot over the text's last bytes", file, 63, 33, text, 0xffff82d080fff000, URDDOLWY_IMAGE_SIZE, 22);
+    refused("a slot over the text's first bytes", file, 63, 33, text, 0xffff82d07ffff000, URDDOLWY_IMAGE_SIZE, 22);
+    refused("a slot right behind the text", file, 63, 33, text, 0xffff82d081000000, URDDOLWY_IMAGE_SIZE, 8);
+    refused("a slot right before the text", file, 63, 33, text, 0xffff82d07fffe000, URDDOLWY_IMAGE_SIZE, 8);
     refused("the last slot", file, 63, 33, text, UINT64_MAX - 8191, URDDOLWY_IMAGE_SIZE, 8);
     refused("an image too short", file, 63, 33, text, slot, URDDOLWY_IMAGE_SIZE - 1, 22);
 }

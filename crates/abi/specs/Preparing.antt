@@ -1,7 +1,7 @@
 -- What `urddolwy_prepare` returns, and what it leaves in its three buffers.
-use Prim.Native.Nat.{ℕ, _+_, _^_}
+use Prim.Native.Nat.{ℕ, _+_, _%_, _^_}
 use mathlib.Core.Path.{_≡_}
-use mathlib.Core.Bool.{Bool, true, _&&_}
+use mathlib.Core.Bool.{Bool, true, _&&_, _||_}
 use mathlib.Core.Logic.{_↔_}
 use mathlib.Core.List.{List}
 use lib.Dec.{leb, eqb}
@@ -26,7 +26,15 @@ use Rattle.prepare.specs.Prepare.{prepareRules, acceptedPrepared}
 abbrev pub hostOf : ℕ → ℕ → ℕ → Host
 hostOf text size slot = record { processor = X86_64; text = text; «text_length» = size; slot = slot }
 
--- the text: 1 to 16,777,216 bytes whose last lies at 2^64 - 1 or before; the slot: not at 0, and its last byte likewise
+-- "base a multiple of 4,096": and so is every slot's
+abbrev pub slotAlign : ℕ
+slotAlign = 4096
+
+-- "text and arena share an address": the text and this slot of it do not
+unfoldable pub isApart : Host → Bool
+isApart host = leb (host .text + host .«text_length») (host .slot) || leb (host .slot + placedMax) (host .text)
+
+-- what start-up asks of the text: 1 to 16,777,216 bytes whose last lies at 2^64 - 1 or before; and of the slot: not at 0, its last byte likewise
 unfoldable pub rangesOk : Host → Bool
 rangesOk host =
     leb 1 (host .«text_length»)
@@ -34,6 +42,8 @@ rangesOk host =
     && leb (host .text + host .«text_length») (2 ^ 64)
     && leb 1 (host .slot)
     && leb (host .slot + placedMax) (2 ^ 64)
+    && eqb (host .slot % slotAlign) 0
+    && isApart host
 
 -- the three buffers of the caller: the slot's bytes, the edits, the summary
 pub record Buffers : Type 0 where

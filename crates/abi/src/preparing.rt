@@ -1,13 +1,26 @@
 // A payload prepared for its slot, into the caller's buffers.
 ghost use mathlib.Core.Path.{_≡_};
 ghost use Rattle.acceptance.specs.Stages.{setting};
-ghost use Rattle.abi.specs.Preparing.{hostOf, rangesOk, bufferSizesOk, buffers, left, Answers};
+ghost use Rattle.abi.specs.Preparing.{hostOf, isApart, rangesOk, bufferSizesOk, buffers, left, Answers};
 use machine::host::Host;
 use machine::processor::Processor;
 use records::payload::Payload;
 use records::refusal::Place;
 use records::refusal::Reason;
 use records::refusal::Verdict;
+
+// A slot's address is a multiple of it.
+const SLOT_ALIGN: u64 = 4096;
+
+// Whether text and slot share no address: by differences, as either may end at 2^64.
+fn is_apart(host: Host) -> bool
+    ensures { λ r. ⌜ r ≡ isApart host ⌝ }
+{
+    if host.text <= host.slot {
+        return host.text_length <= host.slot - host.text;
+    }
+    Payload::PLACED_MAX as u64 <= host.text - host.slot
+}
 
 fn ranges_ok(host: Host) -> bool
     ensures { λ r. ⌜ r ≡ rangesOk host ⌝ }
@@ -27,7 +40,10 @@ fn ranges_ok(host: Host) -> bool
     if u64::MAX - host.slot < Payload::PLACED_MAX as u64 - 1 {
         return false;
     }
-    true
+    if host.slot % SLOT_ALIGN != 0 {
+        return false;
+    }
+    is_apart(host)
 }
 
 fn buffer_sizes_ok(image: usize, edits: usize, summary: usize) -> bool

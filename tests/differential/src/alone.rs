@@ -18,7 +18,7 @@ pub fn faults(input: &Input, stated: &Stated) -> Vec<String> {
     ];
     let mut found = Vec::new();
     for (call, stated, answer) in answers {
-        if stated.is_some_and(|code| code != answer) {
+        if stated.map_or(false, |code| code != answer) {
             found.push(format!("{call}: {} for {}", in_words(answer), in_words(stated.unwrap_or(0))));
         }
     }

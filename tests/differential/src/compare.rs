@@ -18,12 +18,17 @@ struct Answers {
 
 /// The library's answers to the list and to the payload, its buffers after them, and how the two loaders differ, in
 /// words.
-#[derive(Default)]
 pub struct Outcome {
     pub symbols: u64,
     pub payload: u64,
     pub buffers: [Vec<u8>; 3],
     pub difference: Option<String>,
+}
+
+impl Outcome {
+    fn new(library: Answers, difference: Option<String>) -> Outcome {
+        Outcome { symbols: library.symbols, payload: library.prepare, buffers: library.buffers, difference }
+    }
 }
 
 /// Bytes that stand in the buffers before a call, so that an untouched buffer is seen.
@@ -65,7 +70,9 @@ impl Surrounded {
 fn library_answers(input: &Input, fill: u8) -> Answers {
     let (file, list) = (Surrounded::new(&input.file, fill), Surrounded::new(&input.list, fill));
     let mut wide = input.buffers.map(|len| Surrounded::new(&pattern(len), fill));
-    let prepare = abi::prepare(file.inner(), list.inner(), input, wide.each_mut().map(Surrounded::inner_mut));
+    let [image, edits, summary] = &mut wide;
+    let prepare =
+        abi::prepare(file.inner(), list.inner(), input, [image.inner_mut(), edits.inner_mut(), summary.inner_mut()]);
     let strayed = wide.iter().any(|buffer| buffer.strayed(fill));
     let buffers = wide.map(|buffer| buffer.inner().to_vec());
     let (symbols, file) = (abi::check_symbols(list.inner()), abi::check_file(file.inner()));
@@ -86,7 +93,7 @@ pub fn compare(input: &Input, stated: &Stated, fill: u8) -> Outcome {
     let library = library_answers(input, fill);
     let second = match std::panic::catch_unwind(|| second_answers(input)) {
         Ok(answers) => answers,
-        Err(panic) => return Outcome { difference: Some(panicked(panic)), ..Outcome::default() },
+        Err(panic) => return Outcome::new(library, Some(panicked(panic))),
     };
     let calls = [
         ("check_symbols", stated.symbols, library.symbols, second.symbols),
@@ -96,8 +103,7 @@ pub fn compare(input: &Input, stated: &Stated, fill: u8) -> Outcome {
     let answer =
         calls.into_iter().find_map(|(call, stated, library, second)| answers_differ(call, stated, library, second));
     let difference = answer.or_else(|| buffers_differ(&library, &second)).or_else(|| not_as_stated(&library, stated));
-    let payload = library.prepare;
-    Outcome { symbols: library.symbols, payload, buffers: library.buffers, difference }
+    Outcome::new(library, difference)
 }
 
 fn panicked(panic: Box<dyn std::any::Any + Send>) -> String {

@@ -1,7 +1,8 @@
 //! The generated groups: each has a seed and a number of cases, and counts as one test.
 
 use crate::compare::compare;
-use crate::report::{Report, Tally};
+use crate::reached::Reached;
+use crate::report::Report;
 use differential::damage::{damage, free_bytes, symbol_list, Focus};
 use differential::mutations::{table, Table};
 use differential::payloads::random::{edge_payload, lists, payload, Made};
@@ -60,7 +61,7 @@ pub fn run(seed: u64, cases: u64, report: &mut Report) {
     let whole: u64 = kinds().map(|(_, _, part)| part).sum();
     for (kind, name, part) in kinds() {
         for _ in 0..GROUPS {
-            group(kind, name, seeds.number(), (cases * part).div_ceil(whole * GROUPS), report);
+            group(kind, name, seeds.number(), (cases * part + whole * GROUPS - 1) / (whole * GROUPS), report);
         }
     }
 }
@@ -69,13 +70,14 @@ fn group(kind: Kind, name: &str, seed: u64, count: u64, report: &mut Report) {
     print!("group {name}, seed {seed:#018x}: ");
     let _ = std::io::stdout().flush();
     let mut source = Source::new(kind, seed);
-    let mut tally = Tally::default();
+    let mut answers = Reached::default();
     let mut differences = 0;
     for number in 0..count {
         let (input, stated) = source.input();
         let fill = if number % 2 == 0 { 0 } else { 0xff };
         let outcome = compare(&input, &stated, fill);
-        tally.add(match kind {
+        report.generated.add(outcome.payload);
+        answers.add(match kind {
             Kind::ValidLists | Kind::DamagedLists => outcome.symbols,
             _ => outcome.payload,
         });
@@ -87,9 +89,13 @@ fn group(kind: Kind, name: &str, seed: u64, count: u64, report: &mut Report) {
             differences += 1;
         }
     }
-    let verdict = if differences == 0 { "ok".to_string() } else { format!("FAILED, {differences} differ") };
-    println!("{verdict}, {count} cases ({})", tally.in_words());
-    report.count(count, differences);
+    let verdict = match (count, differences) {
+        (0, _) => "FAILED, it ran no case".to_string(),
+        (_, 0) => "ok".to_string(),
+        _ => format!("FAILED, {differences} differ"),
+    };
+    println!("{verdict}, {count} cases ({})", answers.in_words());
+    report.count(count, differences + u64::from(count == 0));
 }
 
 /// Where a group's inputs come from.

@@ -1,4 +1,5 @@
-//! Compares the library with the second loader: the stack of a call, named rows, objects of the GNU tools, generated groups.
+//! Compares the library with the second loader: the stack of a call, named rows, objects of the GNU tools, generated groups;
+//! then, whether these reached every answer.
 //!
 //!   differential [--cases N] [--seed S] [--work FOLDER] [--verbose]
 //!
@@ -9,6 +10,7 @@
 mod abi;
 mod compare;
 mod groups;
+mod reached;
 mod report;
 mod rows;
 mod stack;
@@ -69,6 +71,7 @@ fn main() -> ExitCode {
     rows::run(options.verbose, &mut report);
     tools::run(&options.work.join("objects"), &mut report);
     groups::run(options.seed, options.cases, &mut report);
+    reached::run(&mut report);
     match report.close() {
         true => ExitCode::SUCCESS,
         false => ExitCode::FAILURE,

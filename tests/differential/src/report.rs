@@ -1,14 +1,18 @@
 //! What is printed: a line for each test, the first difference, the closing line.
 
+use crate::reached::Reached;
 use differential::payloads::Input;
-use differential::second::{Place, Refusal};
-use std::collections::BTreeMap;
 use std::path::PathBuf;
 
 pub struct Report {
     pub passed: u64,
     pub failed: u64,
     pub cases: u64,
+    /// The answers to the payloads of rows and objects, and to those of groups.
+    pub named: Reached,
+    pub generated: Reached,
+    /// What was left out, and why.
+    pub skipped: Vec<String>,
     /// Where the input of the first difference is kept.
     kept: PathBuf,
     shown: bool,
@@ -16,7 +20,16 @@ pub struct Report {
 
 impl Report {
     pub fn new(kept: PathBuf) -> Report {
-        Report { passed: 0, failed: 0, cases: 0, kept, shown: false }
+        Report {
+            passed: 0,
+            failed: 0,
+            cases: 0,
+            named: Reached::default(),
+            generated: Reached::default(),
+            skipped: Vec::new(),
+            kept,
+            shown: false,
+        }
     }
 
     /// Counts one test.
@@ -51,35 +64,13 @@ impl Report {
         }
     }
 
-    /// The closing line; true where nothing failed.
+    /// What was skipped, in one line, and the closing line; true where nothing failed.
     pub fn close(&self) -> bool {
         println!("{} cases", self.cases);
+        if !self.skipped.is_empty() {
+            println!("skipped: {}", self.skipped.join("; "));
+        }
         println!("{} passed, {} failed", self.passed, self.failed);
         self.failed == 0
-    }
-}
-
-/// How often each answer was given, by number and kind of place.
-#[derive(Default)]
-pub struct Tally(BTreeMap<(u64, &'static str), u64>);
-
-impl Tally {
-    pub fn add(&mut self, code: u64) {
-        let answer = match Refusal::of_code(code) {
-            None => (0, "accepted"),
-            Some(Refusal { number, place: Place::Nowhere }) => (number, "nowhere"),
-            Some(Refusal { number, place: Place::Section(_) }) => (number, "sections"),
-            Some(Refusal { number, place: Place::Relocation { .. } }) => (number, "relocations"),
-            Some(Refusal { number, place: Place::Record(_) }) => (number, "records"),
-        };
-        *self.0.entry(answer).or_default() += 1;
-    }
-
-    pub fn in_words(&self) -> String {
-        let part = |((number, place), count): (&(u64, &str), &u64)| match number {
-            0 => format!("{place} {count}"),
-            _ => format!("{number} {place} {count}"),
-        };
-        self.0.iter().map(part).collect::<Vec<_>>().join(", ")
     }
 }

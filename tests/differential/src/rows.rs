@@ -46,7 +46,9 @@ fn run_row(row: &Row, report: &mut Report) -> u64 {
     for variant in 0..row.variants {
         let (input, stated) = row.trial(variant);
         let fill = if variant % 2 == 0 { 0 } else { 0xff };
-        if let Some(difference) = compare(&input, &stated, fill).difference {
+        let outcome = compare(&input, &stated, fill);
+        report.named.add(outcome.payload);
+        if let Some(difference) = outcome.difference {
             let case = format!("row {} {}, variant {variant}", row.id, row.name);
             report.difference(&case, &difference, &input);
             if differences == 0 && report.failed < SHOWN {

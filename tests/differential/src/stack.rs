@@ -5,8 +5,9 @@ use crate::report::Report;
 use differential::payloads::assemble::input;
 use differential::payloads::template::template;
 
-/// What include/urddolwy.h says is enough. Where it is not, the page that guards it ends the program.
-const STACK: usize = 80 << 10;
+/// What include/urddolwy.h says is enough, and 10 KiB for the thread itself. Where it is not, the page that guards it ends the
+/// program.
+const STACK: usize = (70 + 10) << 10;
 
 /// Prepares an accepted payload on a stack of that size.
 pub fn run(report: &mut Report) {

@@ -10,11 +10,12 @@ pub fn run(folder: &Path, report: &mut Report) {
         let difference = match built {
             Err(error) => Some(format!("not made: {error}")),
             Ok((input, stated)) => {
-                let difference = compare(&input, &stated, 0xff).difference;
-                if let Some(difference) = &difference {
+                let outcome = compare(&input, &stated, 0xff);
+                report.named.add(outcome.payload);
+                if let Some(difference) = &outcome.difference {
                     report.difference(&format!("object: {name}"), difference, &input);
                 }
-                difference
+                outcome.difference
             }
         };
         match &difference {

@@ -47,9 +47,12 @@ fn compare_sections(prepared: &Prepared, placed: &[Placed], linked: &Linked, slo
     for part in placed.iter().filter(|part| !part.section.bytes.is_empty()) {
         let name = &part.section.name;
         let what = format!("section {name}");
-        let Some(theirs) = names.get(name.as_str()) else {
-            report.fail(&what, "ld left it out");
-            continue;
+        let theirs = match names.get(name.as_str()) {
+            Some(theirs) => theirs,
+            None => {
+                report.fail(&what, "ld left it out");
+                continue;
+            }
         };
         let mut lines = Vec::new();
         if theirs.address != slot + part.offset {
@@ -118,7 +121,7 @@ fn entry_differences(entry: &[u8], address: u64, edit: &Edit, linked: &Linked) -
         Edit::Jump(function) => {
             let displacement = get(entry, 13, 4)? as u32 as i32;
             equal("first byte", get(entry, 12, 1)?, 0xe9);
-            let landing = get(entry, 0, 8)?.wrapping_add(5).wrapping_add_signed(displacement.into());
+            let landing = get(entry, 0, 8)?.wrapping_add(5).wrapping_add(i64::from(displacement) as u64);
             equal(&format!("landing on {function}"), landing, linked.symbol(function)?);
         }
         Edit::Fill(length) => {

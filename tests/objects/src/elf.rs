@@ -25,6 +25,14 @@ pub fn get(bytes: &[u8], at: usize, count: usize) -> Result<u64, String> {
     Ok(field.iter().rev().fold(0, |number, byte| number << 8 | u64::from(*byte)))
 }
 
+/// The next multiple of a step, or the number itself where it is one.
+pub fn rounded_up(number: u64, step: u64) -> u64 {
+    match number % step {
+        0 => number,
+        over => number + (step - over),
+    }
+}
+
 /// All sections, by index.
 pub fn sections(file: &[u8]) -> Result<Vec<Section>, String> {
     let (table, count) = (get(file, 40, 8)? as usize, get(file, 60, 2)? as usize);
@@ -59,7 +67,7 @@ pub fn relocation_types(sections: &[Section]) -> BTreeMap<u64, usize> {
     let mut types = BTreeMap::new();
     for table in sections.iter().filter(|section| section.kind == RELA) {
         let target = sections.get(table.info as usize);
-        if target.is_some_and(|target| target.flags & ALLOC != 0) {
+        if target.map_or(false, |target| target.flags & ALLOC != 0) {
             for entry in table.bytes.chunks_exact(24) {
                 *types.entry(get(entry, 8, 4).unwrap_or(0)).or_default() += 1;
             }

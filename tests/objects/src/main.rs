@@ -1,6 +1,6 @@
 //! Payloads made by the GNU tools, prepared by the library and compared byte for byte with what GNU ld links.
 //!
-//! Words: the folder to work in, and the debug image of Debian's Xen.
+//! Words: the folder to work in, the debug image of Debian's Xen, and why it is missing where it is.
 
 mod abi;
 mod bounds;
@@ -19,14 +19,17 @@ use std::process::ExitCode;
 
 fn main() -> ExitCode {
     let words: Vec<String> = std::env::args().skip(1).collect();
-    let [work, image] = &words[..] else {
-        eprintln!("objects: wants a folder to work in and the debug image of Debian's Xen");
-        return ExitCode::from(2);
+    let (work, image, why_missing) = match &words[..] {
+        [work, image, why] => (Path::new(work), Path::new(image), why),
+        _ => {
+            eprintln!("objects: wants a folder to work in, the debug image of Debian's Xen, and why that is missing");
+            return ExitCode::from(2);
+        }
     };
     let mut report = report::Report::new();
-    objects::run(Path::new(work), &mut report);
-    bounds::run(Path::new(work), &mut report);
-    xen::run(Path::new(work), Path::new(image), &mut report);
+    objects::run(work, &mut report);
+    bounds::run(work, &mut report);
+    xen::run(work, image, why_missing, &mut report);
     match report.close() {
         true => ExitCode::SUCCESS,
         false => ExitCode::FAILURE,

@@ -1,6 +1,6 @@
 //! What GNU ld makes of a payload: its placed sections linked at the addresses of the slot.
 
-use crate::elf::{sections, Section, ALLOC, MERGE};
+use crate::elf::{rounded_up, sections, Section, ALLOC, MERGE};
 use crate::tools::{read, symbols, tool, write};
 use std::collections::BTreeMap;
 use std::path::Path;
@@ -41,7 +41,7 @@ pub fn placed(all: &[Section]) -> Result<Vec<Placed>, String> {
             return Err(format!("two sections {}: ld would join them", section.name));
         }
         let end = result.last().map_or(0, Placed::end);
-        result.push(Placed { offset: end.next_multiple_of(section.align.max(1)), section: section.clone() });
+        result.push(Placed { offset: rounded_up(end, section.align.max(1)), section: section.clone() });
     }
     Ok(result)
 }

@@ -5,11 +5,13 @@ pub struct Report {
     failed: u64,
     /// The object and slot of the comparisons that follow.
     about: String,
+    /// What was left out, and why.
+    skipped: Vec<String>,
 }
 
 impl Report {
     pub fn new() -> Report {
-        Report { passed: 0, failed: 0, about: String::new() }
+        Report { passed: 0, failed: 0, about: String::new(), skipped: Vec::new() }
     }
 
     pub fn about(&mut self, about: &str) {
@@ -37,8 +39,16 @@ impl Report {
         (self.passed, self.failed)
     }
 
-    /// The closing line; true where nothing failed.
+    /// Notes a part that is left out; it is counted neither way.
+    pub fn skip(&mut self, what: &str, why: &str) {
+        self.skipped.push(format!("{what} ({why})"));
+    }
+
+    /// What was skipped, in one line, and the closing line; true where nothing failed.
     pub fn close(&self) -> bool {
+        if !self.skipped.is_empty() {
+            println!("skipped: {}", self.skipped.join("; "));
+        }
         println!("{} passed, {} failed", self.passed, self.failed);
         self.failed == 0
     }

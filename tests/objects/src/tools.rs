@@ -25,10 +25,9 @@ pub fn write(folder: &Path, name: &str, bytes: &[u8]) -> Result<(), String> {
 /// The symbols with addresses that `nm` lists, in its order.
 pub fn symbols(folder: &Path, file: &str) -> Result<Vec<(String, u64)>, String> {
     let listed = tool(folder, &["nm", file])?;
-    let row = |line: &str| {
-        let words: Vec<&str> = line.split_whitespace().collect();
-        let [address, _, name] = words[..] else { return None };
-        Some((name.to_string(), u64::from_str_radix(address, 16).ok()?))
+    let row = |line: &str| match line.split_whitespace().collect::<Vec<&str>>()[..] {
+        [address, _, name] => Some((name.to_string(), u64::from_str_radix(address, 16).ok()?)),
+        _ => None,
     };
     Ok(listed.lines().filter_map(row).collect())
 }

@@ -2,7 +2,7 @@
 
 use crate::abi::Place;
 use crate::compare::{compare, Expected};
-use crate::elf::{sections, Section};
+use crate::elf::{rounded_up, sections, Section};
 use crate::list::encode;
 use crate::objects::{compiled, sources};
 use crate::recipes::Edit;
@@ -28,11 +28,10 @@ const REPLACED: &str = "xen_extra_version";
 /// The payloads' own id.
 const ID: [u8; 4] = [1, 2, 3, 4];
 
-/// Compares with the hypervisor's debug image, or says why this part is skipped.
-pub fn run(work: &Path, image: &Path, report: &mut Report) {
+/// Compares with the hypervisor's debug image. Where there is none this part is skipped, for the reason given.
+pub fn run(work: &Path, image: &Path, why_missing: &str, report: &mut Report) {
     if !image.exists() {
-        println!("skipped: Debian's Xen is not here ({} is missing)", image.display());
-        return;
+        return report.skip("payloads on Debian's Xen", why_missing);
     }
     report.about("Debian's Xen");
     let image = image.to_string_lossy();
@@ -90,7 +89,7 @@ fn examine(work: &Path, image: &str) -> Result<Xen, String> {
     let all = sections(&read(Path::new("/"), image)?)?;
     let text = all.iter().find(|section| section.name == ".text").ok_or("it has no .text")?;
     let end = |section: &Section| section.address + section.bytes.len() as u64;
-    let after = all.iter().map(end).max().unwrap_or(0).next_multiple_of(0x20_0000);
+    let after = rounded_up(all.iter().map(end).max().unwrap_or(0), 0x20_0000);
     let notes = tool(work, &["readelf", "-nW", image])?;
     let id = notes.split("Build ID: ").nth(1).and_then(|rest| rest.split_whitespace().next());
     let id = bytes(id.ok_or("it has no build-id")?)?;
@@ -120,7 +119,7 @@ fn distinct(all: Vec<(String, u64)>) -> BTreeMap<String, u64> {
         addresses.entry(name).or_default().insert(address);
     }
     let usable = addresses.into_iter().filter(|(name, found)| (1..=127).contains(&name.len()) && found.len() == 1);
-    usable.filter_map(|(name, found)| Some((name, *found.first()?))).collect()
+    usable.filter_map(|(name, found)| Some((name, found.into_iter().next()?))).collect()
 }
 
 fn bytes(hex: &str) -> Result<Vec<u8>, String> {

@@ -1,6 +1,7 @@
 //! ARG: the other arguments: lengths of the buffers, text range, slot base.
 
 use super::{nowhere, Expect::Accepted, Expect::Holds, Fact::*, Table};
+use crate::payloads::template::{TEXT_BASE, TEXT_LEN};
 use crate::payloads::{Draft, Record};
 
 /// One fill of text's first byte, named where its address is 0, and no relocations.
@@ -42,6 +43,7 @@ fn texts(t: &mut Table) {
     for (len, good) in lens {
         t.prepare("ARG-02", format!("text of {len:#x} bytes"), if good { Accepted } else { nowhere(22) }, move |d| {
             d.text_len = len;
+            d.slot_base = TEXT_BASE + (1 << 25);
             fill_first(d);
         });
     }
@@ -72,10 +74,13 @@ fn slots(t: &mut Table) {
     let top = 0u64.wrapping_sub(8192);
     for (base, good) in [
         (0, false),
-        (1, true),
+        (1, false),
+        (2048, false),
+        (4095, false),
         (4096, true),
+        (4097, false),
         (8192, true),
-        (top - 1, true),
+        (top - 1, false),
         (top, true),
         (top + 1, false),
         (top + 4096, false),
@@ -87,9 +92,30 @@ fn slots(t: &mut Table) {
         });
     }
     let facts = vec![Edits(1), Edit(0, 0, vec![0x90]), Placed(70)];
-    t.prepare("ARG-04", "slot at an odd address, text at 0", Holds(facts), |d| {
-        d.slot_base = 0x1_0000_0001;
+    t.prepare("ARG-04", "slot at 2^32, text at 0", Holds(facts), |d| {
+        d.slot_base = 0x1_0000_0000;
         d.text_base = 0;
+        fill_first(d);
+    });
+    shared(t);
+}
+
+/// A slot beside the text, and with a byte of it.
+fn shared(t: &mut Table) {
+    for (what, base, good) in [
+        ("right behind the text", TEXT_BASE + TEXT_LEN, true),
+        ("over the text's last page", TEXT_BASE + TEXT_LEN - 4096, false),
+        ("inside the text", TEXT_BASE + 8192, false),
+        ("over the text's first page", TEXT_BASE - 4096, false),
+        ("right before the text", TEXT_BASE - 8192, true),
+    ] {
+        t.prepare("ARG-05", format!("slot {what}"), if good { Accepted } else { nowhere(22) }, move |d| {
+            d.slot_base = base;
+            fill_first(d);
+        });
+    }
+    t.prepare("ARG-05", "a text of one byte inside the slot", nowhere(22), |d| {
+        (d.text_base, d.text_len) = (d.slot_base + 8191, 1);
         fill_first(d);
     });
 }

@@ -38,8 +38,7 @@ fn jumps(t: &mut Table) {
 }
 
 fn ranges(t: &mut Table) {
-    // the jump goes from TEXT_BASE + 0x80 to the slot's first byte
-    let from = TEXT_BASE + 0x85;
+    // the jump goes from the text's first pages to the slot's first byte
     let reached = [
         (0x7fff_ffffi64, Some([0xff, 0xff, 0xff, 0x7f])),
         (0x8000_0000, None),
@@ -50,14 +49,16 @@ fn ranges(t: &mut Table) {
         (0x4000_0000_0000_0000, None),
     ];
     for (distance, bytes) in reached {
+        let slot = TEXT_BASE.wrapping_add(8192).wrapping_add(distance as u64) & !4095;
+        let old = slot.wrapping_sub(distance as u64) - 5;
         let expect = match bytes {
-            Some(bytes) => Holds(vec![Edit(0, TEXT_BASE + 0x80, [&[0xe9], &bytes[..]].concat())]),
+            Some(bytes) => Holds(vec![Edit(0, old, [&[0xe9], &bytes[..]].concat())]),
             None => record(34, 0),
         };
         t.prepare("EDT-02", format!("displacement {distance:#x}"), expect, move |d| {
             d.slim();
-            d.slot_base = from.wrapping_add(distance as u64);
-            d.set_records(&[Record::new(d.slot_base, TEXT_BASE + 0x80, 1, 5)]);
+            d.slot_base = slot;
+            d.set_records(&[Record::new(slot, old, 1, 5)]);
         });
     }
 }

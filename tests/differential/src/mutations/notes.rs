@@ -80,7 +80,7 @@ fn lengths(t: &mut Table, role: &'static str) {
 
 fn padding(t: &mut Table, role: &'static str) {
     for len in [1usize, 2, 3, 5, 6, 7, 29, 30, 31] {
-        for byte in len..len.next_multiple_of(4) {
+        for byte in len..(len + 3) / 4 * 4 {
             for value in [1, 0x80] {
                 let name = format!("{role}: description of {len}, padding byte {} is {value:#x}", byte - len);
                 t.file("NOTE-03", name, at(22, role), move |d| {

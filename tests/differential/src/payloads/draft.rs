@@ -1,6 +1,7 @@
 //! The description of a payload, its symbol list and its surroundings, before they are bytes.
 
 use super::assemble::{Assembled, Field};
+use crate::second::bytes::rounded_up;
 use std::rc::Rc;
 
 /// A section index: a number, or that of the section with a role.
@@ -228,7 +229,7 @@ impl Draft {
                 starts.push(None);
                 continue;
             }
-            let start = end.next_multiple_of(section.align.max(1));
+            let start = rounded_up(end, section.align.max(1));
             starts.push(Some(start));
             end = start.saturating_add(section.size());
         }

@@ -9,7 +9,7 @@ pub fn note(description: &[u8]) -> Vec<u8> {
     let mut note = [4, description.len() as u32, 3].map(u32::to_le_bytes).concat();
     note.extend(b"GNU\0");
     note.extend(description);
-    note.resize(note.len().next_multiple_of(4), 0);
+    note.resize((note.len() + 3) / 4 * 4, 0);
     note
 }
 

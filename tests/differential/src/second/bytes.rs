@@ -20,6 +20,14 @@ pub fn inside(offset: u64, size: u64, whole: u64) -> bool {
     u128::from(offset) + u128::from(size) <= u128::from(whole)
 }
 
+/// The next multiple of a step, or the number itself where it is one.
+pub fn rounded_up(number: u64, step: u64) -> u64 {
+    match number % step {
+        0 => number,
+        over => number + (step - over),
+    }
+}
+
 /// The name at `at` of a table: the bytes up to the first zero byte, which must stand within the table.
 pub fn name_at(table: &[u8], at: u64) -> Option<&[u8]> {
     let from = table.get(usize::try_from(at).ok()?..)?;
@@ -45,6 +53,12 @@ mod tests {
         assert_eq!(name_at(b"\0ab\0c", 5), None);
         assert_eq!(name_at(b"\0ab\0c", 6), None);
         assert_eq!(name_at(b"\0ab\0c", u64::MAX), None);
+    }
+
+    #[test]
+    fn multiples() {
+        assert_eq!([0, 1, 7, 8, 9].map(|number| rounded_up(number, 8)), [0, 8, 8, 8, 16]);
+        assert_eq!([rounded_up(5, 1), rounded_up(u64::MAX - 7, 8)], [5, u64::MAX - 7]);
     }
 
     #[test]

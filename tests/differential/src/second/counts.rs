@@ -16,17 +16,15 @@ pub fn count(sections: &[Section]) -> Result<Single, Refusal> {
     let symbols = only(sections, |kind| kind == Kind::Symbols)?;
     let table = &sections[symbols];
     let linked = sections.get(table.link as usize);
-    if table.entry_size != 24
-        || !table.size.is_multiple_of(24)
-        || linked.map(|strings| strings.kind) != Some(Kind::Strings)
-    {
+    let names = linked.map(|strings| strings.kind);
+    if table.entry_size != 24 || table.size % 24 != 0 || names != Some(Kind::Strings) {
         return Err(Refusal::section(22, symbols));
     }
     let functions = only(sections, |kind| kind == Kind::Functions)?;
     let dependency = only(sections, |kind| matches!(kind, Kind::Dependency { .. }))?;
     let build_id = only(sections, |kind| matches!(kind, Kind::BuildId { .. }))?;
     let size = sections[functions].size;
-    if !size.is_multiple_of(64) || !(1..=16).contains(&(size / 64)) {
+    if size % 64 != 0 || !(1..=16).contains(&(size / 64)) {
         return Err(Refusal::section(22, functions));
     }
     Ok(Single { symbols, functions, dependency, build_id })
@@ -53,7 +51,7 @@ pub fn relocated(sections: &[Section], symbols: usize) -> Result<Vec<Relocated>,
     let mut found = Vec::new();
     for section in sections.iter().filter(|section| section.kind == Kind::Relocations) {
         let broken = Refusal::section(22, section.index);
-        if section.link != symbols as u64 || section.entry_size != 24 || !section.size.is_multiple_of(24) {
+        if section.link != symbols as u64 || section.entry_size != 24 || section.size % 24 != 0 {
             return Err(broken);
         }
         let target = sections.get(section.info as usize).ok_or(broken)?;

@@ -71,7 +71,7 @@ fn named_function(name: u64, list: &SymbolList, image: &Image) -> Result<u64, u6
 }
 
 fn inside_image(image: &Image, address: u64, size: u64) -> bool {
-    address.checked_sub(image.base).is_some_and(|offset| inside(offset, size, image.bytes.len() as u64))
+    address.checked_sub(image.base).map_or(false, |offset| inside(offset, size, image.bytes.len() as u64))
 }
 
 /// The jump from one address to another, if its displacement fits.

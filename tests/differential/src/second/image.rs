@@ -1,5 +1,6 @@
 //! Placement: the placed sections one after the other in a slot.
 
+use super::bytes::rounded_up;
 use super::payload::Payload;
 use super::refusal::Refusal;
 use std::collections::HashMap;
@@ -49,7 +50,7 @@ impl Image {
 
 /// Where a section begins and ends that comes after `end` bytes.
 pub fn next(end: u64, alignment: u64, size: u64) -> (u64, u128) {
-    let start = end.next_multiple_of(alignment.max(1));
+    let start = rounded_up(end, alignment.max(1));
     (start, u128::from(start) + u128::from(size))
 }
 

@@ -1,6 +1,6 @@
 //! The two note sections.
 
-use super::bytes::field;
+use super::bytes::{field, rounded_up};
 use super::refusal::Refusal;
 use super::sections::Section;
 
@@ -18,12 +18,12 @@ pub fn read_notes(file: &[u8], sections: &[Section]) -> Result<Vec<(usize, Vec<u
 /// The description of the one note that the bytes are.
 pub fn description(note: &[u8]) -> Option<&[u8]> {
     let head = note.get(..16)?;
-    let length = field(head, 4, 4) as usize;
+    let length = field(head, 4, 4);
     let right_head = field(head, 0, 4) == 4 && field(head, 8, 4) == 3 && head[12..] == *b"GNU\0";
-    if !right_head || !(1..=32).contains(&length) || note.len() != 16 + length.next_multiple_of(4) {
+    if !right_head || !(1..=32).contains(&length) || note.len() as u64 != 16 + rounded_up(length, 4) {
         return None;
     }
-    let (description, padding) = note[16..].split_at(length);
+    let (description, padding) = note[16..].split_at(length as usize);
     padding.iter().all(|byte| *byte == 0).then_some(description)
 }
 
@@ -34,7 +34,7 @@ mod tests {
     fn note(length: u32, described: usize) -> Vec<u8> {
         let mut note = [4u32.to_le_bytes(), length.to_le_bytes(), 3u32.to_le_bytes(), *b"GNU\0"].concat();
         note.resize(16 + described, 0xaa);
-        note.resize(note.len().next_multiple_of(4), 0);
+        note.resize(rounded_up(note.len() as u64, 4) as usize, 0);
         note
     }
 

@@ -21,7 +21,9 @@ impl Surroundings {
         let top = u128::from(u64::MAX);
         let text_end = u128::from(self.text_base) + u128::from(self.text_len);
         let slot_end = u128::from(self.slot_base) + u128::from(SLOT);
-        (1..=1 << 24).contains(&self.text_len) && text_end <= top + 1 && self.slot_base != 0 && slot_end <= top + 1
+        let apart = text_end <= u128::from(self.slot_base) || slot_end <= u128::from(self.text_base);
+        let placed = self.slot_base != 0 && self.slot_base % 4096 == 0 && slot_end <= top + 1;
+        (1..=1 << 24).contains(&self.text_len) && text_end <= top + 1 && placed && apart
     }
 
     /// Whether `size` bytes from `address` on all lie in the text, by ordinary sums.

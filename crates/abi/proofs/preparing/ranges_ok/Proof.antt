@@ -2,7 +2,7 @@
 use Prim.Native.Nat.{_+_, _^_, _≤_, _<_}
 use mathlib.Core.Bool.{and-false}
 use native.Mathlib.Omega.{arith}
-use borrow.Author.Tests.{le-leb, lt-leb}
+use borrow.Author.Tests.{le-leb, lt-leb, eq-eqb, ne-eqb}
 use Rattle.records.specs.Limits.{placedMax}
 use Rattle.abi.specs.Preparing.{rangesOk}
 use borrow.Author.Needs.{needs}
@@ -37,8 +37,13 @@ returns-5 c =
 
 returns-6 : tie.Need-returns-6
 unfolding rangesOk
-returns-6 c =
-    let slot-some = c .before .before in
+returns-6 c = simp (ne-eqb _ _ (c .if6 .taken), and-false)
+
+returns-7 : tie.Need-returns-7
+unfolding rangesOk
+returns-7 c =
+    let aligned = c .before in
+    let slot-some = aligned .before .before .before .before in
     let text-told = slot-some .before .before .before .before .before in
     let text-some = text-told .before .before in
     let host = text-some .before .before .args .host in
@@ -50,9 +55,11 @@ returns-6 c =
       le-leb _ _ text-ends,
       le-leb _ _ (slot-some .if4 .left),
       le-leb _ _ slot-ends,
+      eq-eqb _ _ (aligned .if6 .left),
     )
+    (c .is-apart .ensures)
 
 pub ranges-ok-spec : {M : Type 1} → statement M
 ranges-ok-spec =
     tie.close
-    (tie.spec returns returns-2 (λ c. search needs) returns-3 returns-4 (λ c. search needs) (λ c. search needs) returns-5 returns-6)
+    (tie.spec returns returns-2 (λ c. search needs) returns-3 returns-4 (λ c. search needs) (λ c. search needs) returns-5 returns-6 (λ c κs. search needs) returns-7)

@@ -147,7 +147,7 @@ mod tests {
             longest = longest.max(made.input.file.len());
             full += usize::from(made.stated.bytes.contains(&(2, 0, 8192u32.to_le_bytes().to_vec())));
         }
-        assert_eq!((counts.first(), counts.last()), (Some(&6), Some(&64)));
+        assert_eq!((counts.iter().next(), counts.iter().last()), (Some(&6), Some(&64)));
         assert_eq!(longest, 16_384);
         assert!(full > 20, "only {full} payloads fill their slot");
     }

@@ -17,8 +17,8 @@ pub fn fill(draft: &mut Draft, plan: &Plan, rng: &mut Rng) {
     fill_records(draft, plan, &mut symbols, rng);
     let (starts, _) = draft.placement();
     for index in 0..draft.sections.len() {
-        if draft.sections[index].role == "rela_plain" {
-            let Ref::Number(target) = draft.sections[index].info else { continue };
+        let section = &draft.sections[index];
+        if let ("rela_plain", Ref::Number(target)) = (section.role, section.info) {
             let start = starts[target as usize].unwrap_or(0);
             let size = draft.sections[target as usize].size();
             let count = rng.pick(&[0, 1, 3, 10, 25]);
