@@ -1,15 +1,12 @@
-// Vectors over words, records and symbols: each prints one line, and all lines are compared with crates/vectors/stdout.
-mod addresses;
+// Whole payloads prepared, and known cases of refusals and of the symbol list: each prints its lines, and all lines are compared
+// with crates/vectors/stdout.
 mod kinds;
 mod lists;
-mod numbers;
+mod payloads;
 mod print;
-mod strings;
 
 fn main() {
-    numbers::all();
-    addresses::all();
-    strings::all();
     kinds::all();
     lists::all();
+    payloads::all();
 }

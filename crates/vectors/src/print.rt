@@ -17,14 +17,6 @@ pub(crate) fn word(label: &[u8], text: &[u8]) {
     end();
 }
 
-pub(crate) fn truth(label: &[u8], t: bool) {
-    if t {
-        word(label, b"yes");
-    } else {
-        word(label, b"no");
-    }
-}
-
 pub(crate) fn number(label: &[u8], n: u64) {
     start(label);
     io::write_all(STDOUT_FILENO, b" ");
