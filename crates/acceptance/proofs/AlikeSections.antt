@@ -16,8 +16,8 @@ use Rattle.elf.specs.Name.{Name, named, unnamed, nameIn}
 use Rattle.elf.specs.declared.FileHeader.{FileHeader}
 use Rattle.elf.specs.declared.SectionHeader.{SectionHeader}
 use Rattle.machine.specs.Machine.{Machine}
-use Rattle.object.specs.Header.{headerRules}
-use Rattle.object.specs.Kinds.{hasType, kindNamed, kindOf}
+use Rattle.header.specs.Header.{headerRules}
+use Rattle.kinds.specs.Kinds.{hasType, kindNamed, kindOf}
 use Rattle.object.specs.Sections.{
   sectionCount,
   headerAt,

@@ -10,10 +10,10 @@ use Rattle.records.specs.Verdict.{_then_}
 use Rattle.records.specs.declared.refusal.Verdict.{Verdict}
 use Rattle.records.specs.declared.refusal.Verdict.the-variants.{Pass, Refuse}
 use Rattle.machine.specs.Machine.{Machine}
-use Rattle.object.specs.Kinds.{isNoteKind}
+use Rattle.kinds.specs.Kinds.{isNoteKind}
 use Rattle.object.specs.Sections.{sectionIn, contentsOf}
 use Rattle.object.specs.declared.sections.SectionEntry.{SectionEntry}
-use Rattle.payload.specs.Notes.{one-note, noteRules}
+use Rattle.notes.specs.Notes.{one-note, noteRules}
 use Rattle.placement.specs.Placement.{offsetOf, hasContents, imageBefore}
 use Rattle.placement.proofs.PlacementLaws.{laid, image-begin, image-next}
 use Rattle.linking.specs.Linking.{Linking}

@@ -23,8 +23,8 @@ use Rattle.machine.specs.Machine.{editBytes}
 use Rattle.machine.specs.X86.{x86-64, fitsFourBytes, typeOf, jumpLength, displacementOf, isFillSize}
 use Rattle.machine.specs.declared.fields.FieldType.the-variants as field
 use Rattle.machine.specs.declared.processor.Processor.the-variants.{X86_64}
-use Rattle.payload.specs.Notes.{idLength, padded, noteHeadOk, noteOk}
-use Rattle.payload.proofs.NoteLaws.{note-ok-length}
+use Rattle.notes.specs.Notes.{idLength, padded, noteHeadOk, noteOk}
+use Rattle.notes.proofs.NoteLaws.{note-ok-length}
 use Rattle.placement.specs.Placement.{isPlaced, nextMultiple, endBefore, offsetOf}
 use Rattle.linking.specs.Linking.{Linking}
 use Rattle.linking.specs.Symbols.{symbolValue}

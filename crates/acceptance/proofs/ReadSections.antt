@@ -9,10 +9,10 @@ use Rattle.words.specs.Text.{ascii}
 use Rattle.words.proofs.Tests.{both}
 use Rattle.elf.specs.Name.{Name, named, unnamed}
 use Rattle.elf.specs.declared.SectionHeader.{SectionHeader}
-use Rattle.object.specs.Kinds.{isAllocated, hasType, kindNamed, kindOf, kindCode, isKind, isNoteKind}
+use Rattle.kinds.specs.Kinds.{isAllocated, hasType, kindNamed, kindOf, kindCode, isKind, isNoteKind}
+use Rattle.kinds.specs.declared.Kind.{Kind}
+use Rattle.kinds.specs.declared.Kind.the-variants.{Symbols, Strings, Relocations, Ignored, Unknown}
 use Rattle.object.specs.Sections.{sectionCount, headerAt, noEntry, sectionName, sections}
-use Rattle.object.specs.declared.kinds.Kind.{Kind}
-use Rattle.object.specs.declared.kinds.Kind.the-variants.{Symbols, Strings, Relocations, Ignored, Unknown}
 use Rattle.object.specs.declared.sections.SectionEntry.{SectionEntry}
 use Rattle.placement.specs.Placement.{isPlaced, hasContents}
 use Rattle.relocation.specs.Relocating.{isRelocating}

@@ -14,8 +14,9 @@ use Rattle.records.specs.declared.refusal.Place.{Place}
 use Rattle.records.specs.declared.refusal.Place.the-variants.{Section}
 use Rattle.elf.specs.Layout.{fileHeaderOf}
 use Rattle.elf.specs.Name.{isNamed}
-use Rattle.object.specs.Header.{sizeOk, fieldsOk, tableInside, headerRules}
-use Rattle.object.specs.Kinds.{hasType, isKind, isNoteKind}
+use Rattle.header.specs.Header.{sizeOk, fieldsOk, tableInside, headerRules}
+use Rattle.kinds.specs.Kinds.{hasType, isKind, isNoteKind}
+use Rattle.kinds.specs.declared.Kind.the-variants.{Unnamed, Records, Depends, BuildId, Symbols, Relocations, Unknown}
 use Rattle.object.specs.Sections.{
   sectionCount,
   sections,
@@ -29,10 +30,9 @@ use Rattle.object.specs.Sections.{
   sectionRules,
   sectionsRules,
 }
-use Rattle.object.specs.declared.kinds.Kind.the-variants.{Unnamed, Records, Depends, BuildId, Symbols, Relocations, Unknown}
 use Rattle.object.proofs.SectionLaws.{read-typed, unnamed-told, section-in}
+use Rattle.notes.specs.Notes.{noteOk, noteRules}
 use Rattle.payload.specs.Counts.{symbolTableOk, recordsSizeOk, countRules}
-use Rattle.payload.specs.Notes.{noteOk, noteRules}
 use Rattle.payload.specs.Reading.{tableRules, readRules}
 use Rattle.payload.specs.RelocationHeaders.{relocationHeaderOk, relocationHeaderRules}
 use Rattle.acceptance.specs.Broken.{Broken}

@@ -13,9 +13,9 @@ use Rattle.machine.specs.declared.fields.Checked.the-variants.{Right, Wrong}
 use Rattle.machine.specs.declared.fields.FieldType.{FieldType}
 use Rattle.machine.specs.declared.processor.RelocationType.{RelocationType}
 use Rattle.machine.specs.declared.processor.RelocationType.the-variants.{Nothing, Stores, Unknown}
-use Rattle.object.specs.Kinds.{isKind}
+use Rattle.kinds.specs.Kinds.{isKind}
+use Rattle.kinds.specs.declared.Kind.the-variants.{Relocations}
 use Rattle.object.specs.Sections.{sectionCount, sections}
-use Rattle.object.specs.declared.kinds.Kind.the-variants.{Relocations}
 use Rattle.object.specs.declared.sections.SectionEntry.{SectionEntry}
 use Rattle.linking.specs.Linking.{Linking}
 use Rattle.linking.specs.declared.values.SymbolValue.{SymbolValue}

@@ -13,13 +13,13 @@ use Rattle.records.specs.declared.refusal.Verdict.the-variants.{Pass, Refuse}
 use Rattle.records.proofs.Checks.{then-pass}
 use Rattle.elf.specs.declared.SectionHeader.{SectionHeader}
 use Rattle.machine.specs.Machine.{Machine}
-use Rattle.object.specs.Kinds.{isKind}
+use Rattle.kinds.specs.Kinds.{isKind}
+use Rattle.kinds.specs.declared.Kind.{Kind}
+use Rattle.kinds.specs.declared.Kind.the-variants.{Depends, BuildId, Symbols}
 use Rattle.object.specs.Sections.{sectionCount, sections, sectionIn, contentsOf, nameTableRules}
-use Rattle.object.specs.declared.kinds.Kind.{Kind}
-use Rattle.object.specs.declared.kinds.Kind.the-variants.{Depends, BuildId, Symbols}
 use Rattle.object.specs.declared.sections.SectionEntry.{SectionEntry}
+use Rattle.notes.specs.Notes.{idIn}
 use Rattle.payload.specs.Counts.{countOf, indexOf, symbolTableOk}
-use Rattle.payload.specs.Notes.{idIn}
 use Rattle.payload.specs.Reading.{tableRules, readRules, idOf, acceptedReading}
 use Rattle.payload.proofs.CountLaws.{CountsPass, index-found, symbols-linked}
 use Rattle.payload.proofs.ReadingLaws.{ReadPasses, read-passes}

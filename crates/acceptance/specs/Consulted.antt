@@ -7,9 +7,9 @@ use lib.Dec.{leb, ltb}
 use lib.ListN.{length, getD}
 use Rattle.elf.specs.Layout.{sectionHeaderSize, fileHeaderOf}
 use Rattle.elf.specs.declared.SectionHeader.{SectionHeader}
-use Rattle.object.specs.Kinds.{hasType, isKind, isNoteKind}
+use Rattle.kinds.specs.Kinds.{hasType, isKind, isNoteKind}
+use Rattle.kinds.specs.declared.Kind.the-variants.{Symbols, Relocations, Ignored}
 use Rattle.object.specs.Sections.{sectionCount, headerAt, sections, sectionIn}
-use Rattle.object.specs.declared.kinds.Kind.the-variants.{Symbols, Relocations, Ignored}
 use Rattle.object.specs.declared.sections.SectionEntry.{SectionEntry}
 use Rattle.placement.specs.Placement.{hasContents}
 use Rattle.relocation.specs.Relocating.{isRelocating}

@@ -19,11 +19,11 @@ use Rattle.elf.specs.declared.Relocation as elf
 use Rattle.machine.specs.Machine.{editBytes}
 use Rattle.machine.specs.X86.{x86-64}
 use Rattle.machine.specs.declared.processor.Processor.the-variants.{X86_64}
-use Rattle.object.specs.Kinds.{isNoteKind}
+use Rattle.kinds.specs.Kinds.{isNoteKind}
+use Rattle.kinds.specs.declared.Kind.the-variants.{Placed}
 use Rattle.object.specs.Sections.{sectionIn, contentsOf}
-use Rattle.object.specs.declared.kinds.Kind.the-variants.{Placed}
 use Rattle.object.specs.declared.sections.SectionEntry.{SectionEntry}
-use Rattle.payload.specs.Notes.{idLength, padded, noteOk, one-note}
+use Rattle.notes.specs.Notes.{idLength, padded, noteOk, one-note}
 use Rattle.placement.specs.Placement.{endBefore, offsetOf}
 use Rattle.linking.specs.Linking.{Linking}
 use Rattle.linking.specs.Symbols.{symbolValue}

@@ -10,9 +10,9 @@ use Rattle.machine.specs.Host.{ruleOf}
 use Rattle.machine.specs.Machine.{Machine}
 use Rattle.machine.specs.declared.fields.FieldType.{FieldType}
 use Rattle.machine.specs.declared.processor.RelocationType.{RelocationType}
-use Rattle.object.specs.Kinds.{hasType}
+use Rattle.kinds.specs.Kinds.{hasType}
+use Rattle.kinds.specs.declared.Kind.the-variants.{Symbols}
 use Rattle.object.specs.Sections.{sectionCount, sections, sectionIn, contentsOf}
-use Rattle.object.specs.declared.kinds.Kind.the-variants.{Symbols}
 use Rattle.object.specs.declared.sections.SectionEntry.{SectionEntry}
 use Rattle.payload.specs.RelocationHeaders.{relocationHeaderOk}
 use Rattle.linking.specs.Symbols.{symbolValue}

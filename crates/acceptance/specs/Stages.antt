@@ -8,9 +8,9 @@ use Rattle.records.specs.declared.refusal.Verdict.{Verdict}
 use Rattle.machine.specs.Host.{hostMachine}
 use Rattle.machine.specs.Machine.{Machine}
 use Rattle.machine.specs.declared.host.Host.{Host}
+use Rattle.kinds.specs.declared.Kind.{Kind}
+use Rattle.kinds.specs.declared.Kind.the-variants.{Records}
 use Rattle.object.specs.Sections.{sectionCount, sections, sectionIn}
-use Rattle.object.specs.declared.kinds.Kind.{Kind}
-use Rattle.object.specs.declared.kinds.Kind.the-variants.{Records}
 use Rattle.payload.specs.Counts.{countOf, indexOf}
 use Rattle.payload.specs.Reading.{readRules, acceptedReading}
 use Rattle.payload.specs.declared.read.Reading.{Reading}

@@ -1,4 +1,1 @@
-pub mod Arms
-pub mod HeaderLaws
-pub mod KindLaws
 pub mod SectionLaws

@@ -17,8 +17,10 @@ use Rattle.elf.specs.Layout.{sectionHeaderSize, fileHeaderOf}
 use Rattle.elf.specs.Name.{isNamed}
 use Rattle.elf.specs.declared.FileHeader.{FileHeader}
 use Rattle.elf.specs.declared.SectionHeader.{SectionHeader}
-use Rattle.object.specs.Header.{Headed}
-use Rattle.object.specs.Kinds.{hasType, kindOf, isKind}
+use Rattle.header.specs.Header.{Headed}
+use Rattle.kinds.specs.Kinds.{hasType, kindOf, isKind}
+use Rattle.kinds.specs.declared.Kind.the-variants.{Null, Unnamed}
+use Rattle.kinds.proofs.KindLaws.{kind-unnamed, kind-null}
 use Rattle.object.specs.Sections.{
   sectionCount,
   headerAt,
@@ -32,8 +34,6 @@ use Rattle.object.specs.Sections.{
   sections,
   sectionIn,
 }
-use Rattle.object.specs.declared.kinds.Kind.the-variants.{Null, Unnamed}
-use Rattle.object.proofs.KindLaws.{kind-unnamed, kind-null}
 
 -- ---- the section table
 

@@ -15,8 +15,8 @@ use Rattle.records.specs.declared.refusal.Verdict.the-variants.{Pass}
 use Rattle.elf.specs.Layout.{sectionHeaderSize, fileHeaderOf, sectionHeaderOf}
 use Rattle.elf.specs.Name.{Name, nameIn}
 use Rattle.elf.specs.declared.SectionHeader.{SectionHeader}
-use Rattle.object.specs.Kinds.{hasType, kindOf, isKind}
-use Rattle.object.specs.declared.kinds.Kind.the-variants.{Null, Unnamed, Unknown}
+use Rattle.kinds.specs.Kinds.{hasType, kindOf, isKind}
+use Rattle.kinds.specs.declared.Kind.the-variants.{Null, Unnamed, Unknown}
 use Rattle.object.specs.declared.sections.SectionEntry.{SectionEntry}
 
 -- "1 to 64 sections"

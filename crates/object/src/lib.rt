@@ -1,4 +1,2 @@
-// A payload's file as an ELF object: its header, and its sections with their kinds.
-pub mod header;
-pub mod kinds;
+// A payload's file as an ELF object: its sections, each with its kind.
 pub mod sections;

@@ -3,7 +3,7 @@ ghost use mathlib.Core.Path.{_≡_};
 ghost use Prim.Native.Nat.{_≤_, _<_};
 ghost use Rattle.records.specs.Limits.{sectionsMax};
 ghost use Rattle.records.specs.declared.refusal.Verdict.the-variants.{Pass};
-ghost use Rattle.object.specs.Header.{Headed};
+ghost use Rattle.header.specs.Header.{Headed};
 ghost use Rattle.object.specs.Sections.{
   sectionCount,
   headerAt,
@@ -21,9 +21,8 @@ ghost use Rattle.object.specs.Sections.{
   sectionRules,
   sectionsRules,
 };
-use super::kinds;
-use super::kinds::Kind;
 use elf::SectionHeader;
+use kinds::Kind;
 use records::payload::Payload;
 use records::refusal::Place;
 use records::refusal::Reason;

@@ -15,10 +15,10 @@ use Rattle.records.specs.declared.refusal.Verdict.the-variants.{Pass}
 use Rattle.records.proofs.Checks.{must-pass, then-pass}
 use Rattle.elf.specs.Layout.{symbolSize}
 use Rattle.elf.specs.declared.SectionHeader.{SectionHeader}
-use Rattle.object.specs.Kinds.{hasType, kindCode, isKind}
+use Rattle.kinds.specs.Kinds.{hasType, kindCode, isKind}
+use Rattle.kinds.specs.declared.Kind.{Kind}
+use Rattle.kinds.specs.declared.Kind.the-variants.{Records, Depends, BuildId, Symbols}
 use Rattle.object.specs.Sections.{sectionIn}
-use Rattle.object.specs.declared.kinds.Kind.{Kind}
-use Rattle.object.specs.declared.kinds.Kind.the-variants.{Records, Depends, BuildId, Symbols}
 use Rattle.object.specs.declared.sections.SectionEntry.{SectionEntry}
 use Rattle.payload.specs.Counts.{one-counted, countOf, indexOf, symbolTableOk, recordsSizeOk, countRules}
 

@@ -1,4 +1,3 @@
 pub mod CountLaws
-pub mod NoteLaws
 pub mod ReadingLaws
 pub mod RelocationHeaderLaws

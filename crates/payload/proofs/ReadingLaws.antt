@@ -11,20 +11,20 @@ use Rattle.records.specs.declared.refusal.Verdict.the-variants.{Pass}
 use Rattle.records.proofs.Checks.{Told, then-pass}
 use Rattle.elf.specs.declared.SectionHeader.{SectionHeader}
 use Rattle.machine.specs.Machine.{Machine}
-use Rattle.object.specs.Header.{Headed, headerRules}
-use Rattle.object.specs.Kinds.{kindCode, isKind, isNoteKind}
+use Rattle.header.specs.Header.{Headed, headerRules}
+use Rattle.header.proofs.HeaderLaws.{headed}
+use Rattle.kinds.specs.Kinds.{kindCode, isKind, isNoteKind}
+use Rattle.kinds.specs.declared.Kind.{Kind}
+use Rattle.kinds.specs.declared.Kind.the-variants.{Records, Depends, BuildId, Symbols, Relocations}
 use Rattle.object.specs.Sections.{sectionCount, sections, sectionIn, contentsOf, nameTableRules, sectionsRules}
-use Rattle.object.specs.declared.kinds.Kind.{Kind}
-use Rattle.object.specs.declared.kinds.Kind.the-variants.{Records, Depends, BuildId, Symbols, Relocations}
 use Rattle.object.specs.declared.sections.SectionEntry.{SectionEntry}
-use Rattle.object.proofs.HeaderLaws.{headed}
+use Rattle.notes.specs.Notes.{noteOk, noteRules}
+use Rattle.notes.proofs.NoteLaws.{note-passes}
 use Rattle.payload.specs.Counts.{countOf, indexOf, countRules}
-use Rattle.payload.specs.Notes.{noteOk, noteRules}
 use Rattle.payload.specs.Reading.{tableRules, readRules, refusedReading, acceptedReading}
 use Rattle.payload.specs.RelocationHeaders.{isTarget, relocationHeaderRules}
 use Rattle.payload.specs.declared.read.Reading.{Reading}
 use Rattle.payload.proofs.CountLaws.{CountsPass, counted, counts-pass, index-found, symbols-linked, records-sized}
-use Rattle.payload.proofs.NoteLaws.{note-passes}
 use Rattle.payload.proofs.RelocationHeaderLaws.{target-passes}
 
 -- ---- every stage passes

@@ -13,9 +13,9 @@ use Rattle.records.specs.declared.refusal.Verdict.{Verdict}
 use Rattle.records.specs.declared.refusal.Verdict.the-variants.{Pass}
 use Rattle.records.proofs.Checks.{must-pass, scan-passes}
 use Rattle.elf.specs.Layout.{relocationSize}
-use Rattle.object.specs.Kinds.{isKind}
+use Rattle.kinds.specs.Kinds.{isKind}
+use Rattle.kinds.specs.declared.Kind.the-variants.{Relocations}
 use Rattle.object.specs.Sections.{sectionIn}
-use Rattle.object.specs.declared.kinds.Kind.the-variants.{Relocations}
 use Rattle.object.specs.declared.sections.SectionEntry.{SectionEntry}
 use Rattle.payload.specs.RelocationHeaders.{isTarget, relocationHeaderOk, relocationHeaderRules}
 

@@ -10,10 +10,10 @@ use Rattle.records.specs.declared.refusal.Place.the-variants.{Nowhere, Section}
 use Rattle.records.specs.declared.refusal.Verdict.{Verdict}
 use Rattle.elf.specs.Layout.{symbolSize}
 use Rattle.elf.specs.declared.SectionHeader.{SectionHeader}
-use Rattle.object.specs.Kinds.{hasType, isKind}
+use Rattle.kinds.specs.Kinds.{hasType, isKind}
+use Rattle.kinds.specs.declared.Kind.{Kind}
+use Rattle.kinds.specs.declared.Kind.the-variants.{Records, Depends, BuildId, Symbols}
 use Rattle.object.specs.Sections.{sectionIn}
-use Rattle.object.specs.declared.kinds.Kind.{Kind}
-use Rattle.object.specs.declared.kinds.Kind.the-variants.{Records, Depends, BuildId, Symbols}
 use Rattle.object.specs.declared.sections.SectionEntry.{SectionEntry}
 
 -- how many of the first n sections are of a kind

@@ -1,4 +1,3 @@
 pub mod Counts
-pub mod Notes
 pub mod Reading
 pub mod RelocationHeaders

@@ -9,15 +9,15 @@ use Rattle.records.specs.declared.payload.BuildId.{BuildId}
 use Rattle.records.specs.declared.refusal.Refusal.{Refusal}
 use Rattle.records.specs.declared.refusal.Verdict.{Verdict}
 use Rattle.records.specs.declared.refusal.Verdict.the-variants.{Pass, Refuse}
-use Rattle.payload.specs.Counts.{indexOf, countRules}
 use Rattle.machine.specs.Machine.{Machine}
-use Rattle.object.specs.Header.{headerRules}
-use Rattle.payload.specs.Notes.{idIn, noteRules}
-use Rattle.payload.specs.RelocationHeaders.{relocationHeaderRules}
+use Rattle.header.specs.Header.{headerRules}
+use Rattle.kinds.specs.declared.Kind.{Kind}
+use Rattle.kinds.specs.declared.Kind.the-variants.{Records, Depends, Symbols}
 use Rattle.object.specs.Sections.{sectionCount, sections, sectionIn, noEntry, contentsOf, nameTableRules, sectionsRules}
-use Rattle.object.specs.declared.kinds.Kind.{Kind}
-use Rattle.object.specs.declared.kinds.Kind.the-variants.{Records, Depends, Symbols}
 use Rattle.object.specs.declared.sections.SectionEntry.{SectionEntry}
+use Rattle.notes.specs.Notes.{idIn, noteRules}
+use Rattle.payload.specs.Counts.{indexOf, countRules}
+use Rattle.payload.specs.RelocationHeaders.{relocationHeaderRules}
 use Rattle.payload.specs.declared.read.Reading.{Reading}
 
 -- "sections by index .., counts .., type 4 headers, notes by index": what is asked of the n sections ss of the file

@@ -9,9 +9,9 @@ use Rattle.records.specs.declared.refusal.Place.the-variants.{Section}
 use Rattle.records.specs.declared.refusal.Verdict.{Verdict}
 use Rattle.records.specs.declared.refusal.Verdict.the-variants.{Pass}
 use Rattle.elf.specs.Layout.{relocationSize}
-use Rattle.object.specs.Kinds.{hasType, isKind}
+use Rattle.kinds.specs.Kinds.{hasType, isKind}
+use Rattle.kinds.specs.declared.Kind.the-variants.{Placed, Records, Relocations, Ignored}
 use Rattle.object.specs.Sections.{sectionIn}
-use Rattle.object.specs.declared.kinds.Kind.the-variants.{Placed, Records, Relocations, Ignored}
 use Rattle.object.specs.declared.sections.SectionEntry.{SectionEntry}
 
 -- "either a placed section, neither type 8 nor one of the two notes, or an ignored one of type 1"

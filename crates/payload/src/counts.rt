@@ -4,7 +4,7 @@ ghost use Prim.Native.Nat.{_≤_, _<_};
 ghost use Rattle.records.specs.Limits.{sectionsMax};
 ghost use Rattle.payload.specs.Counts.{countOf, indexOf, symbolTableOk, recordsSizeOk, countRules};
 use elf::SectionHeader;
-use object::kinds::Kind;
+use kinds::Kind;
 use object::sections::SectionEntry;
 use records::payload::Payload;
 use records::refusal::Place;

@@ -1,5 +1,4 @@
 // A payload read in document 01's order: what the file alone decides.
 pub(crate) mod counts;
-pub(crate) mod notes;
 pub mod read;
 pub(crate) mod relocation_headers;

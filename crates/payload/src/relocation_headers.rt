@@ -3,7 +3,7 @@ ghost use mathlib.Core.Path.{_≡_};
 ghost use Prim.Native.Nat.{_≤_};
 ghost use Rattle.records.specs.Limits.{sectionsMax};
 ghost use Rattle.payload.specs.RelocationHeaders.{isTarget, relocationHeaderOk, relocationHeaderRules};
-use object::kinds::Kind;
+use kinds::Kind;
 use object::sections::SectionEntry;
 use records::payload::Payload;
 use records::refusal::Place;

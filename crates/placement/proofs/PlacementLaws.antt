@@ -20,7 +20,7 @@ use Rattle.records.specs.Verdict.{must}
 use Rattle.records.specs.declared.refusal.Place.the-variants.{Section}
 use Rattle.records.specs.declared.refusal.Verdict.the-variants.{Pass}
 use Rattle.records.proofs.Checks.{must-pass, scan-passes, Told}
-use Rattle.object.specs.Kinds.{hasType}
+use Rattle.kinds.specs.Kinds.{hasType}
 use Rattle.object.specs.Sections.{sectionIn, contentsOf}
 use Rattle.object.specs.declared.sections.SectionEntry.{SectionEntry}
 use Rattle.placement.specs.Placement.{

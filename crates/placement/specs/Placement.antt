@@ -14,9 +14,9 @@ use Rattle.records.specs.declared.refusal.Place.the-variants.{Section}
 use Rattle.records.specs.declared.refusal.Refusal.{Refusal}
 use Rattle.records.specs.declared.refusal.Verdict.{Verdict}
 use Rattle.records.specs.declared.refusal.Verdict.the-variants.{Pass, Refuse}
-use Rattle.object.specs.Kinds.{isAllocated, hasType, isKind, isNoteKind}
+use Rattle.kinds.specs.Kinds.{isAllocated, hasType, isKind, isNoteKind}
+use Rattle.kinds.specs.declared.Kind.the-variants.{Placed, Records}
 use Rattle.object.specs.Sections.{sectionIn, contentsOf}
-use Rattle.object.specs.declared.kinds.Kind.the-variants.{Placed, Records}
 use Rattle.object.specs.declared.sections.SectionEntry.{SectionEntry}
 use Rattle.placement.specs.declared.Layout.{Layout}
 use Rattle.placement.specs.declared.Placement.{Placement}

@@ -3,7 +3,7 @@ ghost use mathlib.Core.Path.{_≡_};
 ghost use Prim.Native.Nat.{_+_, _≤_};
 ghost use Rattle.records.specs.Limits.{sectionsMax, placedMax};
 ghost use Rattle.placement.specs.Placement.{isPlaced, nextMultiple, stepOf, boundFor, hasContents, refusedAt, placementOf};
-use object::kinds::Kind;
+use kinds::Kind;
 use object::sections::SectionEntry;
 use object::sections::{self};
 use records::payload::Payload;

@@ -14,9 +14,9 @@ use Rattle.records.specs.declared.refusal.Verdict.{Verdict}
 use Rattle.records.specs.declared.refusal.Verdict.the-variants.{Pass}
 use Rattle.records.proofs.Checks.{Told, then-pass, rules-told, answer-told}
 use Rattle.machine.specs.Machine.{Machine}
-use Rattle.object.specs.Kinds.{hasType, isKind}
+use Rattle.kinds.specs.Kinds.{hasType, isKind}
+use Rattle.kinds.specs.declared.Kind.the-variants.{Placed, Records, Relocations, Ignored}
 use Rattle.object.specs.Sections.{sections, sectionCount, sectionIn}
-use Rattle.object.specs.declared.kinds.Kind.the-variants.{Placed, Records, Relocations, Ignored}
 use Rattle.object.specs.declared.sections.SectionEntry.{SectionEntry}
 use Rattle.payload.specs.Reading.{readRules}
 use Rattle.payload.specs.RelocationHeaders.{isTarget}

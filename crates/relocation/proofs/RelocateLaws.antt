@@ -23,9 +23,9 @@ use Rattle.machine.specs.Host.{ruleOf, hostMachine}
 use Rattle.machine.specs.Machine.{Machine}
 use Rattle.machine.specs.declared.host.Host.{Host}
 use Rattle.machine.proofs.Laws.{length-field}
-use Rattle.object.specs.Kinds.{isKind}
+use Rattle.kinds.specs.Kinds.{isKind}
+use Rattle.kinds.specs.declared.Kind.the-variants.{Relocations}
 use Rattle.object.specs.Sections.{sectionIn, contentsOf}
-use Rattle.object.specs.declared.kinds.Kind.the-variants.{Relocations}
 use Rattle.object.specs.declared.sections.SectionEntry.{SectionEntry}
 use Rattle.payload.specs.declared.read.Reading.{Reading}
 use Rattle.linking.specs.Kept.{Kept}

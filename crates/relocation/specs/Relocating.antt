@@ -22,9 +22,9 @@ use Rattle.machine.specs.declared.fields.FieldType.{FieldType}
 use Rattle.machine.specs.declared.host.Host.{Host}
 use Rattle.machine.specs.declared.processor.RelocationType.{RelocationType}
 use Rattle.machine.specs.declared.processor.RelocationType.the-variants.{Nothing, Stores, Unknown}
-use Rattle.object.specs.Kinds.{isKind}
+use Rattle.kinds.specs.Kinds.{isKind}
+use Rattle.kinds.specs.declared.Kind.the-variants.{Relocations, Ignored}
 use Rattle.object.specs.Sections.{sectionIn, contentsOf}
-use Rattle.object.specs.declared.kinds.Kind.the-variants.{Relocations, Ignored}
 use Rattle.object.specs.declared.sections.SectionEntry.{SectionEntry}
 use Rattle.payload.specs.declared.read.Reading.{Reading}
 use Rattle.placement.specs.Placement.{offsetOf}

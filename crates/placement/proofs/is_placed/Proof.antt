@@ -3,8 +3,8 @@ use Prim.Native.Nat.{ℕ}
 use mathlib.Core.Bool.{or-true}
 use mathlib.Core.List.{List, [], _∷_}
 use mathlib.Core.Logic.{⊎-elim}
-use Rattle.object.specs.declared.kinds.Kind.the-variants.{Placed, Records, Depends, BuildId}
-use Rattle.object.proofs.Arms.{this-kind, other-kind}
+use Rattle.kinds.specs.declared.Kind.the-variants.{Placed, Records, Depends, BuildId}
+use Rattle.kinds.proofs.Arms.{this-kind, other-kind}
 use Rattle.placement.specs.Placement.{isPlaced}
 use Rattle.placement.proofs.is_placed.Statement.{statement}
 use Rattle.placement.proofs.is_placed.Tie as tie

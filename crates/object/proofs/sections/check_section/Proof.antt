@@ -5,9 +5,9 @@ use mathlib.Core.Bool.{true, false}
 use borrow.Author.Needs.{needs}
 use borrow.Author.Tests.{eq-eqb, ne-eqb}
 use Rattle.words.proofs.Tests.{held, refuted, equals, differs}
-use Rattle.object.specs.Kinds.{hasType, isKind}
+use Rattle.kinds.specs.Kinds.{hasType, isKind}
+use Rattle.kinds.specs.declared.Kind.the-variants.{Unnamed, Unknown}
 use Rattle.object.specs.Sections.{knownType, knownFlags, alignmentOk, sectionRules}
-use Rattle.object.specs.declared.kinds.Kind.the-variants.{Unnamed, Unknown}
 use Rattle.object.proofs.sections.check_section.Statement.{statement}
 use Rattle.object.proofs.sections.check_section.Tie as tie
 

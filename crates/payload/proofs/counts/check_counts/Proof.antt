@@ -8,9 +8,9 @@ use Rattle.words.proofs.Tests.{held, refuted, equals, differs}
 use Rattle.records.specs.Verdict.{must, _then_}
 use Rattle.records.specs.declared.refusal.Place.the-variants.{Nowhere, Section}
 use Rattle.records.specs.declared.refusal.Verdict.{Verdict}
+use Rattle.kinds.specs.declared.Kind.{Kind}
+use Rattle.kinds.specs.declared.Kind.the-variants.{Symbols, Records, Depends, BuildId}
 use Rattle.object.specs.Sections.{noEntry, sectionIn}
-use Rattle.object.specs.declared.kinds.Kind.{Kind}
-use Rattle.object.specs.declared.kinds.Kind.the-variants.{Symbols, Records, Depends, BuildId}
 use Rattle.payload.specs.Counts.{countOf, indexOf, symbolTableOk, recordsSizeOk, countRules}
 use Rattle.payload.proofs.counts.check_counts.Statement.{statement}
 use Rattle.payload.proofs.counts.check_counts.Tie as tie

@@ -4,9 +4,9 @@ use mathlib.Core.Path.{_≡_}
 use borrow.Author.Needs.{needs}
 use Rattle.records.specs.Verdict.{_then_}
 use Rattle.records.specs.declared.refusal.Verdict.{Verdict}
-use Rattle.object.specs.declared.kinds.Kind.the-variants.{Symbols}
+use Rattle.kinds.specs.declared.Kind.the-variants.{Symbols}
+use Rattle.notes.specs.Notes.{noteRules}
 use Rattle.payload.specs.Counts.{indexOf, countRules}
-use Rattle.payload.specs.Notes.{noteRules}
 use Rattle.payload.specs.Reading.{tableRules}
 use Rattle.payload.specs.RelocationHeaders.{relocationHeaderRules}
 use Rattle.payload.proofs.read.check_table.Statement.{statement}

@@ -9,9 +9,9 @@ use Rattle.records.specs.Verdict.{decide}
 use Rattle.records.specs.declared.refusal.Verdict.the-variants.{Pass}
 use Rattle.machine.specs.Host.{machineOf}
 use Rattle.machine.specs.Machine.{Machine}
-use Rattle.object.specs.Header.{Headed, headerRules}
+use Rattle.header.specs.Header.{Headed, headerRules}
+use Rattle.header.proofs.HeaderLaws.{headed}
 use Rattle.object.specs.Sections.{sectionCount, nameTableRules}
-use Rattle.object.proofs.HeaderLaws.{headed}
 use Rattle.object.proofs.SectionLaws.{count-read}
 use Rattle.payload.specs.Reading.{tableRules, readRules, refusedReading, acceptedReading, readingOf}
 use Rattle.payload.proofs.read.read.Statement.{statement}

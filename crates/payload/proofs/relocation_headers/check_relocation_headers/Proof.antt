@@ -9,9 +9,9 @@ use Rattle.words.specs.Scan.{scan}
 use Rattle.words.proofs.Scan.{begin, turn, end}
 use Rattle.words.proofs.Tests.{held, refuted}
 use Rattle.records.specs.declared.refusal.Verdict.the-variants.{Pass}
+use Rattle.kinds.specs.declared.Kind.the-variants.{Relocations}
+use Rattle.kinds.proofs.Arms.{this-kind, other-kind}
 use Rattle.object.specs.Sections.{sectionIn, noEntry}
-use Rattle.object.specs.declared.kinds.Kind.the-variants.{Relocations}
-use Rattle.object.proofs.Arms.{this-kind, other-kind}
 use Rattle.payload.specs.RelocationHeaders.{one-relocation-header, relocationHeaderRules}
 use Rattle.payload.proofs.relocation_headers.check_relocation_headers.Statement.{statement}
 use Rattle.payload.proofs.relocation_headers.check_relocation_headers.Tie as tie

@@ -3,8 +3,8 @@ use Prim.Native.Nat.{ℕ}
 use mathlib.Core.Bool.{or-false}
 use mathlib.Core.List.{List, [], _∷_}
 use borrow.Author.Needs.{needs}
-use Rattle.object.specs.declared.kinds.Kind.the-variants.{Placed, Records, Ignored}
-use Rattle.object.proofs.Arms.{other-kind}
+use Rattle.kinds.specs.declared.Kind.the-variants.{Placed, Records, Ignored}
+use Rattle.kinds.proofs.Arms.{other-kind}
 use Rattle.payload.specs.RelocationHeaders.{isTarget}
 use Rattle.payload.proofs.relocation_headers.is_target.Statement.{statement}
 use Rattle.payload.proofs.relocation_headers.is_target.Tie as tie

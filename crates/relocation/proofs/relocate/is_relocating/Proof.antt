@@ -4,9 +4,9 @@ use mathlib.Core.List.{List, [], _∷_}
 use native.Mathlib.Omega.{arith}
 use borrow.Author.Needs.{needs}
 use Rattle.records.specs.Limits.{sectionsMax}
+use Rattle.kinds.specs.declared.Kind.the-variants.{Relocations, Ignored}
+use Rattle.kinds.proofs.Arms.{other-kind}
 use Rattle.object.specs.Sections.{sectionIn, noEntry}
-use Rattle.object.specs.declared.kinds.Kind.the-variants.{Relocations, Ignored}
-use Rattle.object.proofs.Arms.{other-kind}
 use Rattle.relocation.specs.Relocating.{isRelocating}
 use Rattle.relocation.proofs.relocate.is_relocating.Statement.{statement}
 use Rattle.relocation.proofs.relocate.is_relocating.Tie as tie
