@@ -30,7 +30,6 @@ named name =
       result = 0;
       «id_length» = 0;
       dependency = noId;
-      placed = 0;
       edits = replicate recordsMax noEdit;
       «edit_count» = 0;
     }

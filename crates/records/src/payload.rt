@@ -34,7 +34,6 @@ pub struct Payload {
     pub result: u32,
     pub id_length: u32,
     pub dependency: BuildId,
-    pub placed: u32,
     pub edits: [Edit; Payload::RECORDS_MAX],
     pub edit_count: u32,
 }
@@ -139,7 +138,6 @@ impl Payload {
             result: 0,
             id_length: 0,
             dependency: no_id,
-            placed: 0,
             edits: [no_edit; Payload::RECORDS_MAX],
             edit_count: 0,
         }

@@ -31,7 +31,7 @@ module _ {A : Type 0} (f : ℕ → A → A) (last : A) where
       rw none
 
 -- what holds at i and from i + 1 on holds from i on
-from-here : {P : ℕ → Type 0} (i n : ℕ) → P i → ((j : ℕ) → suc i ≤ j → j < n → P j) → (j : ℕ) → i ≤ j → j < n → P j
+pub from-here : {P : ℕ → Type 0} (i n : ℕ) → P i → ((j : ℕ) → suc i ≤ j → j < n → P j) → (j : ℕ) → i ≤ j → j < n → P j
 from-here {P} i n here later j h g = ⊎-elim (λ e. subst P e here) (λ l. later j l g) (eq-or-lt-of-le h)
 
 -- a search among the k numbers from i on: it gives `hit` of the first whose test holds, or `none`

@@ -1,4 +1,5 @@
 pub mod Address
+pub mod Find
 pub mod Name
 pub mod Number
 pub mod Order

@@ -1,0 +1,4 @@
+// Whether the numbers of a state lie in their ranges; the edits of its job counted; its payloads by name.
+pub mod counts;
+pub mod names;
+pub mod ranges;

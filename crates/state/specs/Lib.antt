@@ -1,0 +1,4 @@
+pub mod Change
+pub mod Find
+pub mod State
+pub mod Steps
