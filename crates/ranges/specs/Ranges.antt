@@ -18,7 +18,6 @@ use Rattle.memory.specs.declared.config.Config.{Config}
 use Rattle.state.specs.Find.{isTaken}
 use Rattle.state.specs.State.{revert, apply, replace, checked, applied, isStanding, loaded, stackOf, nameOf}
 use Rattle.state.specs.Steps.{stepCount}
-use Rattle.state.specs.declared.state.Job.{Job}
 use Rattle.state.specs.declared.state.State.{State}
 
 -- an edit of this kind may have this many bytes

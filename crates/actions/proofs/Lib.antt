@@ -1,0 +1,3 @@
+pub mod ActionLaws
+pub mod TargetLaws
+pub mod UnloadLaws

@@ -1,0 +1,13 @@
+pub mod Act
+pub mod Carried
+pub mod Edits
+pub mod Facts
+pub mod Jobs
+pub mod Laid
+pub mod Lists
+pub mod Parts
+pub mod Rendezvous
+pub mod Slots
+pub mod Step
+pub mod Upload
+pub mod Work

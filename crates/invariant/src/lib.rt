@@ -1,0 +1,1 @@
+// What holds of the reference model after any calls: laws alone.

@@ -1,0 +1,2 @@
+pub mod GetLaws
+pub mod TopIdLaws

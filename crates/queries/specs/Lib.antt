@@ -1,0 +1,2 @@
+pub mod Get
+pub mod TopId

@@ -1,0 +1,15 @@
+pub mod Actions
+pub mod Agrees
+pub mod Changes
+pub mod Counting
+pub mod Ended
+pub mod InRange
+pub mod Lookups
+pub mod Queries
+pub mod Rendezvous
+pub mod Steps
+pub mod Stores
+pub mod Undo
+pub mod Unload
+pub mod Upload
+pub mod Work

@@ -1,0 +1,10 @@
+-- `enter::write_id` meets its contract: the entry begins at 32 times the slot.
+use borrow.Author.Needs.{needs}
+use Rattle.upload.proofs.enter.write_id.Statement.{statement}
+use Rattle.upload.proofs.enter.write_id.Tie as tie
+
+returns : tie.Need-returns
+returns c = c .before .before .copy .ensures
+
+pub write-id-spec : {M : Type 1} → statement M
+write-id-spec = tie.close (tie.spec (λ c. search needs) (λ c κs. search needs) (λ c. search needs) returns)
