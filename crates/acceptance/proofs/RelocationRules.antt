@@ -20,7 +20,7 @@ use Rattle.object.specs.declared.sections.SectionEntry.{SectionEntry}
 use Rattle.linking.specs.Linking.{Linking}
 use Rattle.linking.specs.declared.values.SymbolValue.{SymbolValue}
 use Rattle.linking.specs.declared.values.SymbolValue.the-variants.{Value, Refused}
-use Rattle.relocation.specs.Entries.{relocationCount}
+use Rattle.reader.specs.Entries.{relocationCount}
 use Rattle.relocation.specs.Relocating.{checkedField, withSymbol, fieldOk, inField, byType, fieldOf, fieldVerdict, isRelocating}
 use Rattle.relocation.specs.declared.fields.Field.{Field}
 use Rattle.acceptance.specs.Broken.Broken.{

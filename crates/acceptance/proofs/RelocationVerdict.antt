@@ -12,7 +12,7 @@ use Rattle.machine.specs.Machine.{Machine}
 use Rattle.object.specs.Sections.{sectionCount, sections}
 use Rattle.placement.specs.Placement.{imageBefore}
 use Rattle.linking.specs.Linking.{Linking}
-use Rattle.relocation.specs.Entries.{relocationCount}
+use Rattle.reader.specs.Entries.{relocationCount}
 use Rattle.relocation.specs.Relocating.{
   Relocated,
   relocated,

@@ -17,7 +17,7 @@ use Rattle.object.specs.declared.sections.SectionEntry.{SectionEntry}
 use Rattle.payload.specs.RelocationHeaders.{relocationHeaderOk}
 use Rattle.linking.specs.Symbols.{symbolValue}
 use Rattle.linking.specs.declared.values.SymbolValue.{SymbolValue}
-use Rattle.relocation.specs.Entries.{relocationCount}
+use Rattle.reader.specs.Entries.{relocationCount}
 use Rattle.relocation.specs.Relocating.{areaOf, fieldAddress, isRelocating}
 use Rattle.relocation.specs.declared.fields.Area.{Area}
 use Rattle.functions.specs.Functions.{recordAt, editsOf}

@@ -1,13 +1,11 @@
--- Relocation over the slot's bytes: what the cursor finds, a turn and the end of each loop, and that the slot keeps its length.
+-- Relocation over the slot's bytes: a turn and the end of each loop, and that the slot keeps its length.
 use Prim.Native.Nat.{ℕ, zero, suc, _+_, _*_, _-_, _≤_, _<_}
 use mathlib.Core.Path.{_≡_, refl, sym, _∙_}
-use mathlib.Core.Bool.{Bool, true, false, cond}
+use mathlib.Core.Bool.{Bool, true, false}
 use mathlib.Core.List.{List, [], _∷_}
 use native.Mathlib.Numerals.{add-one}
 use native.Mathlib.Omega.{arith}
-use borrow.Author.Tests.{ltb-true, ltb-false}
 use denote.Enum.Declared.{tagOf}
-use lib.Dec.{ltb}
 use lib.ListN.{length, length-take, length-drop}
 use types.Run.{OneOf, miss}
 use Rattle.words.specs.Splice.{part}
@@ -17,7 +15,6 @@ use Rattle.records.specs.Limits.{placedMax}
 use Rattle.records.specs.declared.refusal.Verdict.{Verdict}
 use Rattle.records.specs.declared.refusal.Verdict.the-variants.{Pass, Refuse}
 use Rattle.elf.specs.Layout.{relocationSize, relocationOf}
-use Rattle.elf.specs.declared.Relocation.{Relocation}
 use Rattle.elf.specs.declared.SectionHeader.{SectionHeader}
 use Rattle.machine.specs.Host.{ruleOf, hostMachine}
 use Rattle.machine.specs.Machine.{Machine}
@@ -30,7 +27,7 @@ use Rattle.object.specs.declared.sections.SectionEntry.{SectionEntry}
 use Rattle.payload.specs.declared.read.Reading.{Reading}
 use Rattle.linking.specs.Kept.{Kept}
 use Rattle.linking.specs.Linking.{Linking}
-use Rattle.relocation.specs.Entries.{relocationCount, nextOf}
+use Rattle.reader.specs.Entries.{relocationCount}
 use Rattle.relocation.specs.Relocating.{
   fieldOf,
   Relocated,
@@ -52,9 +49,6 @@ use Rattle.relocation.specs.Relocating.{
   Given,
   areaFits,
 }
-use Rattle.relocation.specs.declared.cursor.Cursor.{Cursor}
-use Rattle.relocation.specs.declared.cursor.Next.{Next}
-use Rattle.relocation.specs.declared.cursor.Next.the-variants.{Entry, End}
 use Rattle.relocation.specs.declared.fields.Area.{Area}
 use Rattle.relocation.specs.declared.fields.Field.{Field}
 use Rattle.relocation.specs.declared.fields.Field.the-variants.{Store, Skip, Fault}
@@ -81,33 +75,6 @@ length-stored image (Store at f value) h =
     length-splice image at _ (rw new h)
 length-stored image Skip h = refl
 length-stored image (Fault reason) h = refl
-
--- ---- the cursor
-
-module _ (entries : List ℕ) (c : Cursor) where
-  abbrev at-cursor : Next
-  at-cursor = Entry (relocationOf entries (relocationSize * c .entry)) (record { entry = c .entry + 1 })
-
-  pub next-entry :
-      (r : Relocation) (next : Cursor) → nextOf entries c ≡ Entry r next →
-      (c .entry < relocationCount entries) × (r ≡ relocationOf entries (relocationSize * c .entry)) × (next .entry ≡ c .entry + 1)
-  unfolding nextOf
-  next-entry r next e = by-cases (ltb (c .entry) (relocationCount entries)) refl e
-    where
-      by-cases :
-          (b : Bool) → ltb (c .entry) (relocationCount entries) ≡ b → cond b at-cursor End ≡ Entry r next →
-          (c .entry < relocationCount entries) × (r ≡ relocationOf entries (relocationSize * c .entry)) × (next .entry ≡ c .entry + 1)
-      by-cases true h e = (ltb-true _ _ h, cc, cc)
-      by-cases false h e = let z : _≡_ {A = ℕ} 0 1 = cc in absurd (omega arith)
-
-  pub next-end : nextOf entries c ≡ End → relocationCount entries ≤ c .entry
-  unfolding nextOf
-  next-end e = by-cases (ltb (c .entry) (relocationCount entries)) refl e
-    where
-      by-cases :
-          (b : Bool) → ltb (c .entry) (relocationCount entries) ≡ b → cond b at-cursor End ≡ End → relocationCount entries ≤ c .entry
-      by-cases true h e = let z : _≡_ {A = ℕ} 0 1 = cc in absurd (omega arith)
-      by-cases false h e = ltb-false _ _ h
 
 -- ---- the entries of one section
 

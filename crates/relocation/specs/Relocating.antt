@@ -33,7 +33,7 @@ use Rattle.linking.specs.Linking.{Linking}
 use Rattle.linking.specs.Symbols.{symbolValue}
 use Rattle.linking.specs.declared.values.SymbolValue.{SymbolValue}
 use Rattle.linking.specs.declared.values.SymbolValue.the-variants.{Value, Refused}
-use Rattle.relocation.specs.Entries.{relocationCount}
+use Rattle.reader.specs.Entries.{relocationCount}
 use Rattle.relocation.specs.declared.fields.Area.{Area}
 use Rattle.relocation.specs.declared.fields.Field.{Field}
 use Rattle.relocation.specs.declared.fields.Field.the-variants.{Store, Skip, Fault}

@@ -1,4 +1,3 @@
 // Relocation: the fields to store, and the slot's bytes after all relocations.
-pub mod cursor;
 pub mod fields;
 pub mod relocate;

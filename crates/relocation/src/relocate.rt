@@ -11,7 +11,7 @@ ghost use Rattle.object.specs.Sections.{sectionIn};
 ghost use Rattle.placement.specs.Placement.{layoutOf};
 ghost use Rattle.linking.specs.Kept.{Kept};
 ghost use Rattle.linking.specs.Linking.{Linking};
-ghost use Rattle.relocation.specs.Entries.{relocationCount};
+ghost use Rattle.reader.specs.Entries.{relocationCount};
 ghost use Rattle.relocation.specs.Relocating.{
   Linkable,
   Given,
@@ -25,8 +25,6 @@ ghost use Rattle.relocation.specs.Relocating.{
   relocateEntries,
   relocateAll,
 };
-use super::cursor::Cursor;
-use super::cursor::Next;
 use super::fields::Area;
 use super::fields::Field;
 use super::fields::{self};
@@ -37,6 +35,8 @@ use object::sections::SectionEntry;
 use object::sections::{self};
 use payload::read::Reading;
 use placement::Layout;
+use reader::cursor::Cursor;
+use reader::cursor::Next;
 use records::payload::Payload;
 use records::refusal::Place;
 use records::refusal::Verdict;
@@ -70,7 +70,7 @@ fn relocate_entries(
     let mut cursor = Cursor::start();
     loop {
         let e = cursor.entry;
-        let Next::Entry(r, next) = cursor.next(entries) else {
+        let Next::Entry(r, next) = reader::next_entry(entries, e) else {
             return Verdict::Pass;
         };
         let f = fields::field_of(cells, strings, list, host, area, r);

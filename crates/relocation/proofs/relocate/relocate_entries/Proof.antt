@@ -10,11 +10,12 @@ use Rattle.elf.specs.Layout.{relocationSize, relocationOf}
 use Rattle.machine.specs.Host.{hostMachine}
 use Rattle.linking.specs.Kept.{Kept}
 use Rattle.linking.specs.Linking.{Linking}
-use Rattle.relocation.specs.Entries.{relocationCount}
+use Rattle.reader.specs.Entries.{relocationCount}
+use Rattle.reader.specs.declared.cursor.Cursor.{Cursor}
+use Rattle.reader.proofs.EntryLaws.{next-entry, next-end}
 use Rattle.relocation.specs.Relocating.{fieldOf, relocated, storeIn, fieldVerdict, continue, relocateEntries, Given}
-use Rattle.relocation.specs.declared.cursor.Cursor.{Cursor}
 use Rattle.relocation.proofs.FieldLaws.{field-fits}
-use Rattle.relocation.proofs.RelocateLaws.{no-fault, next-entry, next-end, entries-turn, entries-end, still-given}
+use Rattle.relocation.proofs.RelocateLaws.{no-fault, entries-turn, entries-end, still-given}
 use Rattle.relocation.proofs.relocate.relocate_entries.Statement.{statement}
 use Rattle.relocation.proofs.relocate.relocate_entries.Tie as tie
 
@@ -41,7 +42,7 @@ loop-holds c =
 returns : tie.Need-returns Inv-loop μ-loop
 returns c =
     let loop = c .before .before .before .loop in
-    let last = next-end _ (loop .cursor) (sym (c .before .before .next .ensures) ∙ c .enum-told .given .1) in
+    let last = next-end _ (loop .cursor) (sym (c .before .before .next-entry .ensures) ∙ c .enum-told .given .1) in
     λ l g. (sym (loop .inv .3 l g .0 ∙ entries-end _ _ _ _ _ _ _ last), loop .inv .3 l g .1)
 
 -- ---- one entry, of a payload that is linked against l
@@ -75,7 +76,7 @@ found :
     (e < relocationCount entries)
     × (c .before .r .given .0 .0 ≡ relocationOf entries (relocationSize * e))
     × (c .before .r .given .0 .1 .0 .entry ≡ e + 1)
-found c = next-entry _ _ _ _ (sym (c .before .before .before .next .ensures) ∙ c .before .r .given .1)
+found c = next-entry _ _ _ _ (sym (c .before .before .before .next-entry .ensures) ∙ c .before .r .given .1)
 
 -- its field, and the cells after it
 made :

@@ -1,6 +1,6 @@
 // A cursor over the entries of a relocation section.
 ghost use mathlib.Core.Path.{_≡_};
-ghost use Rattle.relocation.specs.Entries.{first, nextOf};
+ghost use Rattle.reader.specs.Entries.{first, nextOf};
 use elf::Relocation;
 
 // The number of the next entry.

@@ -1,9 +1,9 @@
 -- `Cursor::next` meets its contract.
 use borrow.Author.Needs.{needs}
 use borrow.Author.Tests.{lt-ltb, le-ltb}
-use Rattle.relocation.specs.Entries.{nextOf}
-use Rattle.relocation.proofs.cursor.Cursor.next.Statement.{statement}
-use Rattle.relocation.proofs.cursor.Cursor.next.Tie as tie
+use Rattle.reader.specs.Entries.{nextOf}
+use Rattle.reader.proofs.cursor.Cursor.next.Statement.{statement}
+use Rattle.reader.proofs.cursor.Cursor.next.Tie as tie
 
 returns : tie.Need-returns
 unfolding nextOf
