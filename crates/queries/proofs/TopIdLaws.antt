@@ -1,12 +1,13 @@
 -- The id that is on top: it lies in the id store, and has 1 to 32 bytes.
 use Prim.Native.Nat.{ℕ, _+_, _≤_, _<_}
-use mathlib.Core.Path.{_≡_, refl}
+use mathlib.Core.Path.{_≡_, refl, sym, ap, _∙_}
 use mathlib.Core.Bool.{Bool, true, false, cond}
 use mathlib.Core.List.{List, []}
 use native.Mathlib.Omega.{arith}
 use borrow.Author.Tests.{le-leb, eqb-true, eqb-false}
 use lib.Dec.{eqb}
 use lib.ListN.{length}
+use lib.Seq.{take-length}
 use Rattle.words.specs.Splice.{part}
 use Rattle.words.proofs.Splice.{length-part}
 use Rattle.words.proofs.Tests.{three}
@@ -18,7 +19,13 @@ use Rattle.state.specs.declared.state.State.{State}
 use Rattle.state.proofs.Whole.{Whole}
 use Rattle.ranges.specs.Ranges.{inRange}
 use Rattle.ranges.proofs.Laws.{InRange, in-range, taken-in-range}
-use Rattle.queries.specs.TopId.{topSlot, topId, idSizesOk, topIdOf, HandsOut}
+use Rattle.queries.specs.TopId.{topSlot, topId, idPlace, topPlace, idThere, idSizesOk, topIdOf, HandsOut}
+use Rattle.queries.specs.declared.top_id.IdPlace.{IdPlace}
+
+-- all of a list, as a part of it
+part-whole : (l : List ℕ) → part l 0 (length l) ≡ l
+unfolding part
+part-whole l = take-length l
 
 module _ (s : State) where
   -- the payload that was applied last
@@ -66,6 +73,26 @@ module _ (s : State) where
           let t = top r some in
           let inside : idAt (topSlot s) + payloadIn s (topSlot s) .«id_length» ≤ length ids = omega (arith, t .slot, t .id-max, z .store) in
           rw (length-part ids (idAt (topSlot s)) (payloadIn s (topSlot s) .«id_length») inside) (t .id-some, t .id-max)
+
+  -- the place of the part is where it stands
+  pub id-there :
+      (build-id ids : List ℕ) → idSizesOk s (length build-id) (length ids) ≡ true →
+      idThere (topPlace s) build-id ids ≡ topId s build-id ids
+  unfolding topPlace topId
+  id-there build-id ids h = by-depth (eqb (s .depth) 0)
+    where
+      z : Sized (length build-id) (length ids)
+      z = sizes-told (length build-id) (length ids) h
+
+      kept : IdPlace
+      kept = idPlace 1 (idAt (topSlot s)) (payloadIn s (topSlot s) .«id_length»)
+
+      by-depth :
+          (t : Bool) →
+          idThere (cond t (idPlace 0 0 (s .config .«id_length»)) kept) build-id ids
+          ≡ cond t build-id (part ids (idAt (topSlot s)) (payloadIn s (topSlot s) .«id_length»))
+      by-depth true = ap (part build-id 0) (sym (z .id)) ∙ part-whole build-id
+      by-depth false = refl
 
   -- what a part says is what the rules say
   pub refused-id : (build-id ids : List ℕ) → idSizesOk s (length build-id) (length ids) ≡ false → HandsOut s build-id ids []

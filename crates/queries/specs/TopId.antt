@@ -13,6 +13,7 @@ use Rattle.memory.specs.Memory.{idAt, idsSize}
 use Rattle.state.specs.Find.{payloadIn}
 use Rattle.state.specs.declared.state.State.{State}
 use Rattle.ranges.specs.Ranges.{inRange}
+use Rattle.queries.specs.declared.top_id.IdPlace.{IdPlace}
 
 -- the slot of the payload that was applied last
 abbrev pub topSlot : State → ℕ
@@ -21,6 +22,19 @@ topSlot s = getD (s .stack) (s .depth - 1) 0
 -- "it is handed out as a part of whichever lent buffer holds it"
 unfoldable pub topId : State → List ℕ → List ℕ → List ℕ
 topId s build-id ids = cond (eqb (s .depth) 0) build-id (part ids (idAt (topSlot s)) (payloadIn s (topSlot s) .«id_length»))
+
+-- the same part by its place: 0 for the hypervisor's build-id or 1 for the id store, where it begins there, and its length
+abbrev pub idPlace : ℕ → ℕ → ℕ → IdPlace
+idPlace buffer offset length = record { buffer = buffer; offset = offset; length = length }
+
+unfoldable pub topPlace : State → IdPlace
+topPlace s =
+    cond (eqb (s .depth) 0) (idPlace 0 0 (s .config .«id_length»))
+    (idPlace 1 (idAt (topSlot s)) (payloadIn s (topSlot s) .«id_length»))
+
+-- the bytes at a place
+abbrev pub idThere : IdPlace → List ℕ → List ℕ → List ℕ
+idThere p build-id ids = part (cond (eqb (p .buffer) 0) build-id ids) (p .offset) (p .length)
 
 -- the numbers of the state and the lent sizes are right
 unfoldable pub idSizesOk : State → ℕ → ℕ → Bool

@@ -1,0 +1,4 @@
+pub mod Laws
+pub mod QuestionLaws
+pub mod StartLaws
+pub mod UploadLaws

@@ -1,0 +1,9 @@
+mod Back
+mod Canonical
+mod Fields
+mod Loads
+mod Readers
+mod Rows
+mod Same
+mod SameRecords
+mod Stored

@@ -1,0 +1,4 @@
+pub mod Fields
+pub mod Flags
+pub mod Layout
+pub mod Stored

@@ -1,0 +1,7 @@
+// The state as the bytes of the records buffer that the host lends.
+pub mod buffer;
+pub(crate) mod edits;
+pub(crate) mod head;
+pub(crate) mod layout;
+pub(crate) mod numbers;
+pub(crate) mod payloads;
