@@ -24,10 +24,10 @@ static uint64_t hexadecimal(char **argv, int index)
     return x;
 }
 
-static void print_hex(const uint8_t *at, size_t n)
+static void print_line(const char *what, const uint8_t *at, uint64_t n)
 {
-    for (size_t i = 0; i < n; i++)
-        printf(" %02x", at[i]);
+    printf("%s", what);
+    print_hex(stdout, (struct bytes){at, (size_t)n});
     printf("\n");
 }
 
@@ -35,14 +35,12 @@ static void print_accepted(const uint8_t *edits, const uint8_t *summary)
 {
     unsigned count = (unsigned)little(summary + 4, 4);
     printf("accepted: %u bytes placed, %u edit%s\n", (unsigned)little(summary, 4), count, count == 1 ? "" : "s");
-    printf("id");
-    print_hex(summary + 16, little(summary + 8, 4));
-    printf("depends on");
-    print_hex(summary + 48, little(summary + 12, 4));
+    print_line("id", summary + 16, little(summary + 8, 4));
+    print_line("depends on", summary + 48, little(summary + 12, 4));
     for (unsigned i = 0; i < count; i++) {
         const uint8_t *e = edits + i * URDDOLWY_EDIT_SIZE;
-        printf("edit at %llx:", (unsigned long long)little(e, 8));
-        print_hex(e + 12, little(e + 8, 4));
+        printf("edit at %llx", (unsigned long long)little(e, 8));
+        print_line(":", e + 12, little(e + 8, 4));
     }
 }
 
@@ -59,15 +57,9 @@ int main(int argc, char **argv)
     struct bytes file = read_file(argv[1]), list = read_file(argv[2]);
     uint64_t answer = urddolwy_prepare(file.at, file.len, list.at, list.len, text_base, text_len, slot_base, image, sizeof image,
                                        edits, sizeof edits, summary, sizeof summary);
-    uint64_t of_file = urddolwy_check_file(file.at, file.len);
-    if (answer == 0) {
+    if (answer == 0)
         print_accepted(edits, summary);
-    } else if (urddolwy_check_symbols(list.at, list.len) != 0) {
-        printf("refused with %u: %s is no symbol list\n", URDDOLWY_NUMBER(answer), argv[2]);
-    } else if (URDDOLWY_PLACE(answer) == URDDOLWY_NOWHERE && answer != of_file) {
-        printf("refused with %u: there can be no such text, or no such slot\n", URDDOLWY_NUMBER(answer));
-    } else {
-        print_refusal(stdout, file, answer);
-    }
+    else
+        print_why(stdout, file, list, argv[2], answer);
     return answer != 0;
 }
