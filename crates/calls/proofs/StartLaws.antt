@@ -64,9 +64,11 @@ accepted-by :
 accepted-by l Pass e pass = ap (λ (y : Started). y .state) e
 accepted-by l (Refuse r) e pass = absurd (pass-refuses (sym pass ∙ ap (λ (y : Started). y .answer) e))
 
+pub accepted-state : (l : Lent) {x : Started} → x ≡ startOf l → x .answer ≡ Pass → x .state ≡ stateWith (configFor l)
+unfolding startOf
+accepted-state l e pass = accepted-by l (startRules l) e pass
+
 pub accepted-start :
     (l : Lent) (r : Called) {arena undo ids after : List ℕ} {answer : ℕ} → started r arena undo ids ≡ startOf l → r .verdict ≡ Pass →
     Holds (r .state) after → StartKept answer l after
-unfolding startOf
-accepted-start l r {arena} {undo} {ids} {after} e pass k zero =
-    subst (λ (s : State). Holds s after) (accepted-by l (startRules l) e pass) k
+accepted-start l r {arena} {undo} {ids} {after} e pass k zero = subst (λ (s : State). Holds s after) (accepted-state l e pass) k

@@ -1,3 +1,3 @@
-mod Runs
-mod Sequence
-mod Start
+pub mod Runs
+pub mod Sequence
+pub mod Start

@@ -110,7 +110,7 @@ map-same : (ps : List Loaded) → map kept (map recordOf ps) ≡ map modelled ps
 map-same [] = refl
 map-same (p ∷ ps) = ap₂ _∷_ (listed-same p) (map-same ps)
 
-matches : {u : Loader} {l : Model} → Stands u l → Matches u l
+pub matches : {u : Loader} {l : Model} → Stands u l → Matches u l
 matches {u} {l} k =
     record {
       list = ap (map kept) (k .state .payloads) ∙ map-same (l .payloads);

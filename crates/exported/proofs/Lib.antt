@@ -1,0 +1,3 @@
+mod Begun
+mod Exported
+mod Replies
