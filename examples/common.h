@@ -1,4 +1,4 @@
-/* What both examples use: a file's bytes, and a refusal in words.
+/* What the examples use: a file's bytes, and a refusal in words.
  *
  * The names at the place of a refusal are read from the payload's file. It may be damaged: each offset is held to the length of the
  * file first, and a name that is not there is left out. */
@@ -18,7 +18,7 @@ struct bytes {
 };
 
 /* Reads a whole file; where it cannot be read, says so and ends with status 2. */
-static struct bytes read_file(const char *name)
+static inline struct bytes read_file(const char *name)
 {
     uint8_t *at = NULL;
     long end = -1;
@@ -128,7 +128,9 @@ static const char *meaning(unsigned number, enum urddolwy_place place)
     case 8:
         return "the file has not the size or the header of a payload";
     case 12:
-        return "with it, more than 8,192 bytes are to be placed";
+        return nowhere ? "no slot is free" : "with it, more than 8,192 bytes are to be placed";
+    case 17:
+        return "a payload of that name is loaded";
     case 22:
         return nowhere ? "the name table or a section that there must be once is missing, or there twice" : "it breaks a rule";
     case 34:
