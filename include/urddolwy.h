@@ -138,11 +138,10 @@ uint64_t urddolwy_prepare(const uint8_t *file, size_t file_len, const uint8_t *s
 #define URDDOLWY_IDS_SIZE 256
 #define URDDOLWY_BUILD_ID_MAX 32
 #define URDDOLWY_RECORDS_SIZE 4228
-/* Payloads that may be loaded, CPUs, and the bytes of a payload's name with its ending zero (at least 2). */
+/* How many payloads and CPUs there may be. */
 #define URDDOLWY_PAYLOADS 8
 #define URDDOLWY_CPUS_MAX 64
-#define URDDOLWY_NAME_MAX 128
-/* The size of one entry in each of the three buffers of urddolwy_list. */
+/* The size of one entry in each of the three buffers of urddolwy_list; a name has at most that size, its ending zero counted. */
 #define URDDOLWY_STATUS_SIZE 8
 #define URDDOLWY_NAME_SIZE 128
 #define URDDOLWY_LENGTH_SIZE 4
@@ -159,11 +158,11 @@ enum urddolwy_status {
 
 /* A payload's last result: that of its last action, as a signed number of 32 bits. */
 enum urddolwy_result {
-    URDDOLWY_DONE = 0,            /* the last job has ended well, or there was none */
-    URDDOLWY_UNDER_WAY = -11,     /* it is the payload of the job */
-    URDDOLWY_TIMED_OUT = -16,     /* the job ended before all CPUs were held; nothing was changed */
-    URDDOLWY_WRONG_STATUS = -22,  /* the last action was refused with 22 for its status */
-    URDDOLWY_WRONG_TOP = -33      /* the last action was refused with 33 */
+    URDDOLWY_DONE = 0,           /* the last job has ended well, or there was none */
+    URDDOLWY_UNDER_WAY = -11,    /* it is the payload of the job */
+    URDDOLWY_TIMED_OUT = -16,    /* the job ended before all CPUs were held; nothing was changed */
+    URDDOLWY_WRONG_STATUS = -22, /* the last action was refused with 22, for its status */
+    URDDOLWY_WRONG_TOP = -33     /* the last action was refused with 33 */
 };
 
 /* The commands of urddolwy_action. */
@@ -219,7 +218,7 @@ uint64_t urddolwy_list(const uint8_t *records, size_t records_len, uint32_t idx,
  *
  * How to drive a job
  *   1. urddolwy_action, accepted.
- *   2. Bring the CPUs to the rendezvous. Each one that has arrived, and will touch neither text nor arena till it is let go, is
+ *   2. Bring the CPUs to the rendezvous. Each one that has arrived, and will run nothing but its waiting loop till it is let go, is
  *      reported: urddolwy_report, once or more.
  *   3. Meanwhile urddolwy_tick for each unit of time that passes. The last tick ends the job: result -16, status as before, text as
  *      before. Let all CPUs go, and try again later with another action.

@@ -109,10 +109,46 @@ static void time_out(void)
     same("get p1", GET_OUT, 0, "\x02\0\0\0\xf0\xff\xff\xff\xa5", 9);
 }
 
+static int all_zero(int buffer, size_t at, size_t n)
+{
+    while (n > 0 && lent[buffer].at[at + n - 1] == 0)
+        n--;
+    return n == 0;
+}
+
+/* An unload frees the slot, and the next upload takes it: last in the list, and in slot 0. */
+static void unloads(void)
+{
+    fresh();
+    expect("start", start(), 0);
+    expect("upload p1", upload(), 0);
+    set_name("p2");
+    expect("upload p2", upload(), 0);
+    refused("upload", "the name is loaded", upload, URDDOLWY_LOADED);
+    command = URDDOLWY_UNLOAD;
+    set_name("p1");
+    expect("unload p1", action(), 0);
+    expect("its slot is not zero", all_zero(ARENA, 0, 8192), 1);
+    expect("its id entry is not zero", all_zero(IDS, 0, 32), 1);
+    expect("the other slot is zero", all_zero(ARENA, 8192, 8192), 0);
+    refused("action", "not loaded", action, URDDOLWY_NOT_LOADED);
+    refused("get", "not loaded", get, URDDOLWY_NOT_LOADED);
+    same("p2 moves up", RECORDS, 164, "p2\0\0", 4);
+    field("p2 stays in its slot", 164 + 132, 4, 1);
+    expect("the place behind it is not zero", all_zero(RECORDS, 164 + 508, 7 * 508), 1);
+    expect("upload p1 again", upload(), 0);
+    field("its slot", 164 + 508 + 132, 4, 0);
+    idx = 1, nr = 1;
+    expect("list", list(), 0);
+    same("the list from 1", NAMES, 0, "p1\0\0", 4);
+    same("entries written and left, version", LIST_OUT, 0, "\x01\0\0\0\0\0\0\0\x04\0\0\0", 12);
+}
+
 int main(void)
 {
     layout();
     session();
     time_out();
+    unloads();
     return closing_line();
 }

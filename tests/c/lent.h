@@ -24,7 +24,7 @@ static struct buffer lent[BUFFERS] = {
     {"records", URDDOLWY_RECORDS_SIZE, 0, NULL},       {"text", CODE_SIZE, 0, NULL},
     {"arena", URDDOLWY_ARENA_SIZE, 0, NULL},           {"undo", URDDOLWY_UNDO_SIZE, 0, NULL},
     {"ids", URDDOLWY_IDS_SIZE, 0, NULL},               {"build_id", ID_SIZE, 0, NULL},
-    {"name", URDDOLWY_NAME_MAX, 0, NULL},              {"symbols", 27, 0, NULL},
+    {"name", URDDOLWY_NAME_SIZE, 0, NULL},              {"symbols", 27, 0, NULL},
     {"file", PAYLOAD_MAX, 0, NULL},                    {"statuses", 8 * URDDOLWY_STATUS_SIZE, 0, NULL},
     {"names", 8 * URDDOLWY_NAME_SIZE, 0, NULL},        {"lengths", 8 * URDDOLWY_LENGTH_SIZE, 0, NULL},
     {"out", URDDOLWY_GET_OUT_SIZE, 0, NULL},           {"out", URDDOLWY_LIST_OUT_SIZE, 0, NULL},
