@@ -1,8 +1,9 @@
-/* example FOLDER: patches the functions of text.c with the payloads that `run` made in the folder, and calls them before, between and after
- * the steps of each job. The processor itself says which code runs. */
+/* example FOLDER ARENA: patches the functions of text.c with the payloads that `run` made in the folder, placed in an arena at this address,
+ * and calls them before, between and after the steps of each job. The processor itself says which code runs. */
 #define _GNU_SOURCE
 #include "host.h"
 
+#include <stdlib.h>
 #include <unistd.h>
 
 /* What the functions return. */
@@ -151,7 +152,7 @@ static void again(void)
 
 int main(int argc, char **argv)
 {
-    if (argc != 2 || chdir(argv[1]) != 0)
+    if (argc != 3 || chdir(argv[1]) != 0)
         return 2;
     take_symbols("symbols", 0);
     build_id = read_file("text.id");
@@ -162,7 +163,7 @@ int main(int argc, char **argv)
     third = read_file("third.payload");
     third_id = read_file("third.id");
     part("start-up");
-    start(0x10000000, read_file("text.bin"), 0x10100000, build_id);
+    start(0x10000000, read_file("text.bin"), strtoull(argv[2], NULL, 16), build_id);
     refused();
     stacked();
     replaced_by_third();
