@@ -1,21 +1,9 @@
 /* The C boundary, called from C: known answers, and that nothing is read past what is given. */
+#include "expect.h"
 #include "urddolwy.h"
 
-#include <stdio.h>
 #include <stdlib.h>
 #include <string.h>
-
-static int passed, failed;
-
-static void expect(const char *what, uint64_t got, uint64_t want)
-{
-    if (got == want) {
-        passed++;
-        return;
-    }
-    failed++;
-    printf("%s: 0x%llx, and not 0x%llx\n", what, (unsigned long long)got, (unsigned long long)want);
-}
 
 /* The bytes in a block of just their size, so that a checker of memory sees a read past them. */
 static uint8_t *exact(const void *bytes, size_t n)
@@ -130,6 +118,5 @@ int main(void)
     preparations();
     expect("the number", URDDOLWY_NUMBER(34 + 512 + (5u << 16) + (7ull << 32)), 34);
     expect("the entry", URDDOLWY_SECOND(34 + 512 + (5u << 16) + (7ull << 32)), 7);
-    printf("%d passed, %d failed\n", passed, failed);
-    return failed != 0;
+    return closing_line();
 }

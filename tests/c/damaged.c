@@ -36,7 +36,7 @@ static void say(const uint8_t *bytes, size_t len, uint64_t answer)
 /* Every number and place, with sections, entries and records that the file may or may not have. */
 static void say_all(const uint8_t *bytes, size_t len)
 {
-    static const unsigned numbers[] = {3, 8, 12, 22, 34, 95};
+    static const unsigned numbers[] = {3, 8, 12, 17, 22, 34, 95};
     for (uint64_t place = 0; place < 5; place++)
         for (uint64_t first = 0; first < 20; first++)
             say(bytes, len, numbers[any() % 6] | place << 8 | first << 16 | any() % 4 << 32);

@@ -1,4 +1,4 @@
-/* uint64_t call_on_stack(void (*function)(void), const uint64_t arguments[13], uint8_t *stack, struct registers *registers)
+/* uint64_t call_on_stack(void (*function)(void), const uint64_t arguments[15], uint8_t *stack, struct registers *registers)
  *
  * Calls the function with the stack pointer at `stack`, where the arguments from the seventh on stand, and with the registers
  * that are given; leaves in their place what they hold after the call. The layout of struct registers: */
@@ -27,7 +27,7 @@ call_on_stack:
         mov %rcx, %r11
         mov %rdx, %rsp
         .set at, 0
-        .rept 7
+        .rept 9
         mov 48 + at(%r10), %rcx
         mov %rcx, at(%rsp)
         .set at, at + 8

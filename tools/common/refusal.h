@@ -15,7 +15,9 @@ static inline const char *meaning(unsigned number, enum urddolwy_place place)
     case 8:
         return "the file has not the size or the header of a payload";
     case 12:
-        return "with it, more than 8,192 bytes are to be placed";
+        return nowhere ? "no slot is free" : "with it, more than 8,192 bytes are to be placed";
+    case 17:
+        return "a payload of that name is loaded";
     case 22:
         return nowhere ? "the name table or a section that there must be once is missing, or there twice" : "it breaks a rule";
     case 34:
