@@ -45,11 +45,11 @@ pub fn top_place(state: State) -> IdPlace
             length: config.id_length,
         };
     }
-    let slot = state.stack[state.depth - 1];
-    let payload = find::payload_in(state, slot);
+    let top = state.stack[state.depth - 1];
+    let payload = find::payload_in(state, top);
     IdPlace {
         buffer: 1,
-        offset: Payload::ID_MAX as u32 * slot,
+        offset: Payload::ID_MAX as u32 * top,
         length: payload.id_length,
     }
 }
