@@ -1,6 +1,10 @@
 //! The library's functions over the C ABI, as include/urddolwy.h has them, for every program that links it from Rust. A slice
 //! passes as a pointer and a length.
-#![allow(dead_code)] // not every program calls all three
+#![allow(dead_code, unused_imports)] // not every program calls all of them
+
+mod boundary_calls;
+
+pub use boundary_calls::*;
 
 #[link(name = "urddolwy", kind = "static")]
 extern "C" {

@@ -4,7 +4,9 @@ use crate::abi;
 use differential::payloads::Input;
 use differential::second::refusal::in_words;
 use differential::second::{self, Surroundings};
+use differential::sequences::session::panicked;
 use differential::stated::Stated;
+use differential::surrounded::{first_difference, pattern, Surrounded};
 
 /// The answers of one loader, and its buffers after them.
 struct Answers {
@@ -31,49 +33,13 @@ impl Outcome {
     }
 }
 
-/// Bytes that stand in the buffers before a call, so that an untouched buffer is seen.
-fn pattern(len: usize) -> Vec<u8> {
-    (0..len).map(|at| (at as u8).wrapping_mul(31) ^ 0xa5).collect()
-}
-
-/// Bytes with others before and after them, which no answer may depend on and no call may change.
-struct Surrounded {
-    bytes: Vec<u8>,
-}
-
-const MARGIN: usize = 64;
-
-impl Surrounded {
-    fn new(inner: &[u8], fill: u8) -> Surrounded {
-        let mut bytes = vec![fill; MARGIN];
-        bytes.extend(inner);
-        bytes.resize(bytes.len() + MARGIN, fill);
-        Surrounded { bytes }
-    }
-
-    fn inner(&self) -> &[u8] {
-        &self.bytes[MARGIN..self.bytes.len() - MARGIN]
-    }
-
-    fn inner_mut(&mut self) -> &mut [u8] {
-        let end = self.bytes.len() - MARGIN;
-        &mut self.bytes[MARGIN..end]
-    }
-
-    /// Whether a byte before or after the inner ones has changed.
-    fn strayed(&self, fill: u8) -> bool {
-        let (before, rest) = self.bytes.split_at(MARGIN);
-        before.iter().chain(&rest[self.inner().len()..]).any(|byte| *byte != fill)
-    }
-}
-
 fn library_answers(input: &Input, fill: u8) -> Answers {
     let (file, list) = (Surrounded::new(&input.file, fill), Surrounded::new(&input.list, fill));
     let mut wide = input.buffers.map(|len| Surrounded::new(&pattern(len), fill));
     let [image, edits, summary] = &mut wide;
     let prepare =
         abi::prepare(file.inner(), list.inner(), input, [image.inner_mut(), edits.inner_mut(), summary.inner_mut()]);
-    let strayed = wide.iter().any(|buffer| buffer.strayed(fill));
+    let strayed = wide.iter().any(|buffer| buffer.strayed());
     let buffers = wide.map(|buffer| buffer.inner().to_vec());
     let (symbols, file) = (abi::check_symbols(list.inner()), abi::check_file(file.inner()));
     Answers { symbols, file, prepare, buffers, strayed }
@@ -93,7 +59,10 @@ pub fn compare(input: &Input, stated: &Stated, fill: u8) -> Outcome {
     let library = library_answers(input, fill);
     let second = match std::panic::catch_unwind(|| second_answers(input)) {
         Ok(answers) => answers,
-        Err(panic) => return Outcome::new(library, Some(panicked(panic))),
+        Err(panic) => {
+            let words = format!("the second loader panicked: {}", panicked(panic));
+            return Outcome::new(library, Some(words));
+        }
     };
     let calls = [
         ("check_symbols", stated.symbols, library.symbols, second.symbols),
@@ -104,12 +73,6 @@ pub fn compare(input: &Input, stated: &Stated, fill: u8) -> Outcome {
         calls.into_iter().find_map(|(call, stated, library, second)| answers_differ(call, stated, library, second));
     let difference = answer.or_else(|| buffers_differ(&library, &second)).or_else(|| not_as_stated(&library, stated));
     Outcome::new(library, difference)
-}
-
-fn panicked(panic: Box<dyn std::any::Any + Send>) -> String {
-    let words = panic.downcast_ref::<String>().cloned();
-    let words = words.or_else(|| panic.downcast_ref::<&str>().map(|text| text.to_string()));
-    format!("the second loader panicked: {}", words.unwrap_or_default())
 }
 
 fn answers_differ(call: &str, stated: Option<u64>, library: u64, second: u64) -> Option<String> {
@@ -128,10 +91,8 @@ fn buffers_differ(library: &Answers, second: &Answers) -> Option<String> {
         return Some("prepare: the library wrote beside a buffer".to_string());
     }
     for (name, (a, b)) in BUFFERS.iter().zip(library.buffers.iter().zip(&second.buffers)) {
-        if let Some(at) = (0..a.len()).find(|&at| a[at] != b[at]) {
-            let some = |bytes: &[u8]| format!("{:02x?}", &bytes[at..bytes.len().min(at + 8)]);
+        if let Some((at, [a, b])) = first_difference(a, b) {
             let answer = in_words(library.prepare);
-            let (a, b) = (some(a), some(b));
             return Some(format!(
                 "prepare ({answer}): the {name} differs first at offset {at}: library: {a}, second loader: {b}"
             ));
@@ -146,9 +107,7 @@ fn not_as_stated(answers: &Answers, stated: &Stated) -> Option<String> {
     }
     for (buffer, at, bytes) in &stated.bytes {
         let is = &answers.buffers[*buffer][*at..*at + bytes.len()];
-        if let Some(off) = (0..bytes.len()).find(|&off| is[off] != bytes[off]) {
-            let shown = |all: &[u8]| format!("{:02x?}", &all[off..all.len().min(off + 8)]);
-            let (is, wanted) = (shown(is), shown(bytes));
+        if let Some((off, [is, wanted])) = first_difference(is, bytes) {
             return Some(format!(
                 "prepare: the {} at offset {}: both loaders: {is}, stated: {wanted}",
                 BUFFERS[*buffer],

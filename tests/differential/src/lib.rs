@@ -8,4 +8,6 @@ pub mod objects;
 pub mod payloads;
 pub mod rng;
 pub mod second;
+pub mod sequences;
 pub mod stated;
+pub mod surrounded;

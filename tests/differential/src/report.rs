@@ -2,6 +2,7 @@
 
 use crate::reached::Reached;
 use differential::payloads::Input;
+use differential::sequences::{Does, Session};
 use std::path::PathBuf;
 
 pub struct Report {
@@ -62,6 +63,27 @@ impl Report {
             Ok(()) => println!("  kept in {}", self.kept.display()),
             Err(error) => println!("  not kept: {error}"),
         }
+    }
+
+    /// Shows the calls up to the first difference of all, and keeps what the uploads were given.
+    pub fn session(&mut self, case: &str, fault: &str, session: &Session) {
+        if self.shown {
+            return;
+        }
+        self.shown = true;
+        println!("FIRST DIFFERENCE");
+        println!("  case: {case}");
+        for (number, (call, forged)) in session.log.iter().enumerate() {
+            println!("  {number}: {call}{}", if *forged { " (forged records)" } else { "" });
+            if let Does::Upload { symbols, file, .. } = &call.does {
+                let kept = std::fs::create_dir_all(&self.kept)
+                    .and_then(|()| std::fs::write(self.kept.join(format!("file-{number}")), &**file))
+                    .and_then(|()| std::fs::write(self.kept.join(format!("list-{number}")), &**symbols));
+                kept.unwrap_or_else(|error| println!("  not kept: {error}"));
+            }
+        }
+        println!("  {fault}");
+        println!("  files and lists kept in {}", self.kept.display());
     }
 
     /// What was skipped, in one line, and the closing line; true where nothing failed.

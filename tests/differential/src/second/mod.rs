@@ -3,9 +3,11 @@
 //! maps, sums in 128 bits.
 //!
 //! The stages of `prepare` stand in document 01's order: the symbol list, then the file alone (`payload`), then what
-//! the slot, the text range and the symbol list decide (`image`, `relocations`, `functions`).
+//! the slot, the text range and the symbol list decide (`image`, `relocations`, `functions`). The calls, which keep a state
+//! in a records buffer, are in `calls`.
 
 pub mod bytes;
+pub mod calls;
 pub mod counts;
 pub mod functions;
 pub mod header;

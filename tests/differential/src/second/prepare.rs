@@ -44,11 +44,15 @@ pub struct Prepared {
 }
 
 pub fn prepare(file: &[u8], symbols: &[u8], around: &Surroundings) -> Result<Prepared, Refusal> {
-    let list = SymbolList::read(symbols)?;
+    prepare_listed(file, &SymbolList::read(symbols)?, around)
+}
+
+/// The same with a symbol list that is read already.
+pub fn prepare_listed(file: &[u8], list: &SymbolList, around: &Surroundings) -> Result<Prepared, Refusal> {
     let payload = Payload::read(file)?;
     let mut image = Image::place(&payload, around.slot_base)?;
-    relocate(&payload, &list, &mut image)?;
-    let edits = read_edits(&payload, &list, &image, around)?;
+    relocate(&payload, list, &mut image)?;
+    let edits = read_edits(&payload, list, &image, around)?;
     let Payload { build_id, dependency, .. } = payload;
     Ok(Prepared { placed: image.bytes, edits, build_id, dependency })
 }

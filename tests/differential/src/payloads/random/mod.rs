@@ -11,6 +11,7 @@ use super::assemble::{assemble, header_field, input_with, Assembled};
 use super::draft::{Contents, Draft, Symbol};
 use super::Input;
 use crate::rng::Rng;
+use crate::second::Surroundings;
 use crate::stated::Stated;
 use plan::Plan;
 
@@ -23,17 +24,24 @@ pub struct Made {
 
 /// A valid payload.
 pub fn payload(rng: &mut Rng) -> Made {
-    make(false, rng)
+    make(|rng| Plan::new(false, rng), rng)
 }
 
 /// A payload whose only fault may be that jumps don't reach their new code.
 pub fn edge_payload(rng: &mut Rng) -> Input {
-    make(true, rng).input
+    make(|rng| Plan::new(true, rng), rng).input
 }
 
-fn make(at_edge: bool, rng: &mut Rng) -> Made {
+/// A valid payload for a given slot near the text, with so many records (or as many as the text has room for) and a dependency
+/// and an id of these lengths.
+pub fn payload_within(around: Surroundings, records: u64, notes: [u64; 2], rng: &mut Rng) -> Made {
+    make(|rng| Plan::within(around, records, notes, rng), rng)
+}
+
+fn make(plan: impl Fn(&mut Rng) -> Plan, rng: &mut Rng) -> Made {
     loop {
-        let (mut draft, mut stated) = draft(at_edge, rng);
+        let plan = plan(rng);
+        let (mut draft, mut stated) = draft(&plan, rng);
         stated.placed(draft.placement().1 as u32);
         noise(&mut draft, rng);
         let mut assembled = assemble(&draft);
@@ -58,10 +66,9 @@ fn lengthen(file: &mut Vec<u8>, rng: &mut Rng) {
     file.extend(rng.bytes(more));
 }
 
-fn draft(at_edge: bool, rng: &mut Rng) -> (Draft, Stated) {
-    let plan = Plan::new(at_edge, rng);
+fn draft(plan: &Plan, rng: &mut Rng) -> (Draft, Stated) {
     let mut draft = Draft {
-        sections: sections::sections(&plan, rng),
+        sections: sections::sections(plan, rng),
         symbols: vec![Symbol::new(b"", super::Ref::Number(0), 0)],
         layout: if rng.one_in(8) { 0 } else { rng.number() },
         list: plan.list.clone(),
@@ -73,8 +80,8 @@ fn draft(at_edge: bool, rng: &mut Rng) -> (Draft, Stated) {
         changes: Vec::new(),
     };
     sections::fit(&mut draft, rng);
-    relocations::fill(&mut draft, &plan, rng);
-    let stated = state(&draft, &plan);
+    relocations::fill(&mut draft, plan, rng);
+    let stated = state(&draft, plan);
     (draft, stated)
 }
 

@@ -49,6 +49,8 @@ pub struct Plan {
     pub list: Vec<(Vec<u8>, u64)>,
     /// How many sections the payload is to have, at least.
     pub sections: usize,
+    /// The lengths of dependency and id, where they are given.
+    pub notes: Option<[u64; 2]>,
 }
 
 impl Plan {
@@ -60,9 +62,8 @@ impl Plan {
             _ => rng.between(1, 4),
         };
         let fills_only = !at_edge && rng.one_in(4);
-        let fills: Vec<Option<u32>> =
-            (0..count).map(|_| (fills_only || rng.one_in(3)).then(|| rng.between(1, 31) as u32)).collect();
-        let covered: u64 = fills.iter().map(|fill| u64::from(fill.unwrap_or(5))).sum();
+        let fills = fills(count, fills_only, rng);
+        let covered = covered(&fills);
         let text_len = match rng.below(5) {
             0 => covered,
             _ if at_edge => covered + rng.below(64),
@@ -72,8 +73,26 @@ impl Plan {
         };
         let near = fills.iter().any(Option::is_none) || rng.one_in(2);
         let around = if at_edge { edge(text_len, rng) } else { surroundings(text_len, near, rng) };
+        Plan::of(around, &fills, None, rng)
+    }
+
+    /// A plan for a valid payload in a given slot, near the text: so many records, or as many as the text has room for; notes of
+    /// these lengths, the dependency's and the id's.
+    pub fn within(around: Surroundings, count: u64, notes: [u64; 2], rng: &mut Rng) -> Plan {
+        let fills_only = rng.one_in(4);
+        let mut fills = fills(count, fills_only, rng);
+        while covered(&fills) > around.text_len {
+            fills.pop();
+        }
+        if fills.is_empty() {
+            fills.push(Some(1));
+        }
+        Plan::of(around, &fills, Some(notes), rng)
+    }
+
+    fn of(around: Surroundings, fills: &[Option<u32>], notes: Option<[u64; 2]>, rng: &mut Rng) -> Plan {
         let mut list = other_names(&around, rng);
-        let mut records = records(&fills, covered, &around, rng);
+        let mut records = records(fills, &around, rng);
         for record in &mut records {
             name(record, &mut list, rng);
         }
@@ -83,13 +102,23 @@ impl Plan {
             5 | 6 => rng.between(20, 63),
             _ => 64,
         };
-        Plan { around, records, list: list.into_iter().collect(), sections: sections as usize }
+        Plan { around, records, list: list.into_iter().collect(), sections: sections as usize, notes }
     }
 }
 
+/// So many edits: the length of a fill, none for a jump.
+fn fills(count: u64, fills_only: bool, rng: &mut Rng) -> Vec<Option<u32>> {
+    (0..count).map(|_| (fills_only || rng.one_in(3)).then(|| rng.between(1, 31) as u32)).collect()
+}
+
+/// The bytes that the edits cover.
+fn covered(fills: &[Option<u32>]) -> u64 {
+    fills.iter().map(|fill| u64::from(fill.unwrap_or(5))).sum()
+}
+
 /// Records whose edits touch no common byte, in any order.
-fn records(fills: &[Option<u32>], covered: u64, around: &Surroundings, rng: &mut Rng) -> Vec<Planned> {
-    let mut spare = around.text_len - covered;
+fn records(fills: &[Option<u32>], around: &Surroundings, rng: &mut Rng) -> Vec<Planned> {
+    let mut spare = around.text_len - covered(fills);
     let mut offset = 0;
     let mut records = Vec::new();
     for fill in fills {

@@ -24,8 +24,8 @@ fn needed(plan: &Plan, rng: &mut Rng) -> Vec<Section> {
         Section::new("funcs", b".livepatch.funcs", 1, placed(rng), Contents::Bytes(vec![0; 64 * plan.records.len()]));
     let mut found = vec![
         Section { align: alignment(rng), ..funcs },
-        note_section("depends", b".livepatch.depends", rng),
-        note_section("build_id", b".note.gnu.build-id", rng),
+        note_section("depends", b".livepatch.depends", plan.notes.map(|[dependency, _]| dependency), rng),
+        note_section("build_id", b".note.gnu.build-id", plan.notes.map(|[_, id]| id), rng),
         Section::new("shstrtab", b".shstrtab", 3, unplaced(rng), Contents::SectionNames),
     ];
     let mut table = Section::new("symtab", b".symtab", 2, unplaced(rng), Contents::Symbols);
@@ -62,12 +62,12 @@ fn strings(plan: &Plan, rng: &mut Rng) -> Contents {
     Contents::Bytes(bytes)
 }
 
-fn note_section(role: &'static str, name: &[u8], rng: &mut Rng) -> Section {
-    let len = match rng.below(4) {
+fn note_section(role: &'static str, name: &[u8], given: Option<u64>, rng: &mut Rng) -> Section {
+    let len = given.unwrap_or_else(|| match rng.below(4) {
         0 => 20,
         1 => rng.pick(&[1, 31, 32]),
         _ => rng.between(1, 32),
-    };
+    });
     let mut id = rng.bytes(len as usize);
     if rng.one_in(6) {
         let last = id.len() - 1;
