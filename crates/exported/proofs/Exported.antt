@@ -54,7 +54,7 @@ use Rattle.exported.specs.Calls.{
   replyFor,
   repliesFor,
 }
-use Rattle.exported.specs.Claim.{loaderOf, Claimed, EverySequence}
+use Rattle.exported.specs.Claim.{loaderOf, Claimed, EveryExportedSequence}
 use Rattle.exported.specs.Run.{
   Host,
   Bytes,
@@ -326,7 +326,7 @@ begun-follows (by-start κs records text text-base arena arena-base undo ids bui
     (λ z. learnt .1 zero) in
     (record { records = begun .records; stands = begun .stands }, begun .sound)
 
-pub every-sequence : EverySequence
+pub every-sequence : EveryExportedSequence
 every-sequence a h h′ cs rs started run =
     let begun = begun-follows started refl in
     let ran = run-follows (opened a) run (begun .0) (begun .1) in

@@ -27,5 +27,5 @@ pub record Claimed (a : Start) (cs : List Call) (rs : List Reply) (h : Host) : T
   pub top : idThere (topPlaceOf (after (opened a) (map plain cs))) (h .build-id) (h .ids) ≡ topId (after (opened a) (map plain cs))
   pub jobs : Jobs (after (opened a) (map plain cs))
 
-abbrev pub EverySequence : Type 0
-EverySequence = (a : Start) (h h′ : Host) (cs : List Call) (rs : List Reply) → Started a 0 h → Run h cs rs h′ → Claimed a cs rs h′
+abbrev pub EveryExportedSequence : Type 0
+EveryExportedSequence = (a : Start) (h h′ : Host) (cs : List Call) (rs : List Reply) → Started a 0 h → Run h cs rs h′ → Claimed a cs rs h′
