@@ -2,14 +2,14 @@
 ghost use mathlib.Core.Path.{_≡_};
 ghost use lib.ListN.{length};
 ghost use Rattle.listing.specs.List.{buffers};
-ghost use Rattle.calls.specs.Questions.{asked, getAsked, listAsking, listAsked, topAsked};
+ghost use Rattle.questions.specs.Questions.{asked, getAsked, listAsking, listAsked, topAsked};
 
 // Status and last result of the payload of this name.
 #[no_mangle]
 pub extern "C" fn urddolwy_get(records: &[u8], name: &[u8], out: &mut [u8]) -> u64
     ensures { λ r. ⌜ asked r (now (out .exit)) ≡ getAsked (now (records .entry)) (now (name .entry)) (now (out .entry)) ⌝ }
 {
-    calls::asking::get(records, name, out)
+    questions::get(records, name, out)
 }
 
 // The list of payloads from `idx` on, at most `nr`.
@@ -27,7 +27,7 @@ pub extern "C" fn urddolwy_list(
         ≡ listAsked (now (records .entry)) idx nr
         (buffers (now (statuses .entry)) (now (names .entry)) (now (lengths .entry))) (now (out .entry)) ⌝ }
 {
-    calls::asking::list(records, idx, nr, statuses, names, lengths, out)
+    questions::list(records, idx, nr, statuses, names, lengths, out)
 }
 
 // Where the top build-id stands: in which buffer, from where on, and its length.
@@ -41,5 +41,5 @@ pub extern "C" fn urddolwy_top_build_id(
     ensures { λ r. ⌜ asked r (now (out .exit))
         ≡ topAsked (now (records .entry)) (now («build_id» .entry)) (now (ids .entry)) (now (out .entry)) ⌝ }
 {
-    calls::asking::top_build_id(records, build_id, ids, out)
+    questions::top_build_id(records, build_id, ids, out)
 }

@@ -1,4 +1,3 @@
 pub mod Laws
-pub mod QuestionLaws
 pub mod StartLaws
 pub mod UploadLaws

@@ -19,7 +19,7 @@ use Rattle.rendezvous.specs.Rendezvous.{reportOf, tickOf}
 use Rattle.work.specs.Work as work
 use Rattle.startup.specs.Start.{Lent}
 use Rattle.calls.specs.Changes.{memory, startTold, uploadTold, actionTold, reportTold, tickTold, workTold}
-use Rattle.calls.specs.Questions.{getSize, listSize, topSize, placeBytes}
+use Rattle.questions.specs.Questions.{getSize, listSize, topSize, placeBytes}
 use Rattle.calls.specs.Told.{told, invalid}
 use Rattle.model.specs.Calls as model
 use Rattle.model.specs.Model.{Start, Model, opened}

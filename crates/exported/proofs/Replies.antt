@@ -17,7 +17,7 @@ use Rattle.queries.specs.Get.{getOf}
 use Rattle.queries.specs.TopId as top
 use Rattle.queries.specs.declared.get.Got.{Got}
 use Rattle.listing.specs.List as list
-use Rattle.calls.specs.Questions.{Asked, asked, rightBuffers, getSize, gotBytes, getAsked, listSize, listedBytes, ListAsked, listAsking, listAsked, topSize, placeBytes, topAsked}
+use Rattle.questions.specs.Questions.{Asked, asked, rightBuffers, getSize, gotBytes, getAsked, listSize, listedBytes, ListAsked, listAsking, listAsked, topSize, placeBytes, topAsked}
 use Rattle.calls.specs.Told.{Told, told, invalid, stored, overRecords}
 use Rattle.model.specs.Calls as model
 use Rattle.model.specs.Model.{Model}

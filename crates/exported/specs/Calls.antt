@@ -10,7 +10,7 @@ use Rattle.records.specs.Verdict.{decide}
 use Rattle.memory.specs.Memory.{idAt}
 use Rattle.queries.specs.TopId.{idPlace, idVerdict}
 use Rattle.queries.specs.declared.top_id.IdPlace.{IdPlace}
-use Rattle.calls.specs.Questions.{getSize, listSize, topSize, placeBytes}
+use Rattle.questions.specs.Questions.{getSize, listSize, topSize, placeBytes}
 use Rattle.calls.specs.Told.{invalid}
 use Rattle.model.specs.Calls as model
 use Rattle.model.specs.Model.{Model}
