@@ -31,6 +31,20 @@ pub record Memory : Type 0 where
 abbrev pub memory : List ℕ → List ℕ → List ℕ → Memory
 memory arena undo ids = record { arena = arena; undo = undo; ids = ids }
 
+-- what start-up is lent: text and its base, arena and its base, both stores, the build-id, the CPU count
+abbrev pub startLent : List ℕ → ℕ → List ℕ → ℕ → List ℕ → List ℕ → List ℕ → ℕ → start.Lent
+startLent text text-base arena arena-base undo ids build-id cpus =
+    record {
+      text = text;
+      text-base = text-base;
+      arena = arena;
+      arena-base = arena-base;
+      undo = undo;
+      ids = ids;
+      build-id = build-id;
+      cpus = cpus;
+    }
+
 unfoldable pub startTold : List ℕ → start.Lent → Told Memory
 startTold b l =
     let x : start.Started = start.startOf l in

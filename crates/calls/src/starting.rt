@@ -1,6 +1,6 @@
 // Start-up.
 ghost use mathlib.Core.Path.{_≡_};
-ghost use Rattle.calls.specs.Changes.{memory, startTold, StartKept};
+ghost use Rattle.calls.specs.Changes.{memory, startLent, startTold, StartKept};
 ghost use Rattle.calls.specs.Told.{told};
 use records::refusal::Place;
 use records::refusal::Reason;
@@ -21,26 +21,13 @@ pub fn start(
     cpus: u32,
 ) -> u64
     ensures { λ r. ⌜ told r (now (records .exit)) (memory (now (arena .exit)) (now (undo .exit)) (now (ids .exit)))
-        ≡ startTold (now (records .entry)) (record {
-          text = now (text .entry);
-          text-base = «text_base»;
-          arena = now (arena .entry);
-          arena-base = «arena_base»;
-          undo = now (undo .entry);
-          ids = now (ids .entry);
-          build-id = now («build_id» .entry);
-          cpus = cpus;
-        }) ⌝ }
-    ensures { λ r. ⌜ StartKept r (record {
-      text = now (text .entry);
-      text-base = «text_base»;
-      arena = now (arena .entry);
-      arena-base = «arena_base»;
-      undo = now (undo .entry);
-      ids = now (ids .entry);
-      build-id = now («build_id» .entry);
-      cpus = cpus;
-    }) (now (records .exit)) ⌝ }
+        ≡ startTold (now (records .entry))
+        (startLent (now (text .entry)) «text_base» (now (arena .entry)) «arena_base» (now (undo .entry)) (now (ids .entry))
+        (now («build_id» .entry)) cpus) ⌝ }
+    ensures { λ r. ⌜ StartKept r
+        (startLent (now (text .entry)) «text_base» (now (arena .entry)) «arena_base» (now (undo .entry)) (now (ids .entry))
+        (now («build_id» .entry)) cpus)
+        (now (records .exit)) ⌝ }
 {
     if records.len() != buffer::size() {
         return Refusal::new(Reason::Invalid, Place::Nowhere).code();

@@ -17,8 +17,7 @@ use Rattle.queries.proofs.TopIdLaws.{id-there}
 use Rattle.listing.specs.List as list
 use Rattle.rendezvous.specs.Rendezvous.{reportOf, tickOf}
 use Rattle.work.specs.Work as work
-use Rattle.startup.specs.Start.{Lent}
-use Rattle.calls.specs.Changes.{memory, startTold, uploadTold, actionTold, reportTold, tickTold, workTold}
+use Rattle.calls.specs.Changes.{memory, startLent, startTold, uploadTold, actionTold, reportTold, tickTold, workTold}
 use Rattle.questions.specs.Questions.{getSize, listSize, topSize, placeBytes}
 use Rattle.calls.specs.Told.{told, invalid}
 use Rattle.model.specs.Calls as model
@@ -309,17 +308,8 @@ top-there {h} {l} k sound =
 
 begun-follows : {a : Start} {r : ℕ} {h : Host} → Started a r h → r ≡ 0 → Follows h (opened a) × Sound (opened a)
 begun-follows (by-start κs records text text-base arena arena-base undo ids build-id cpus r records′ arena′ undo′ ids′ learnt) zero =
-    let l : Lent =
-    record {
-      text = text .now;
-      text-base = text-base;
-      arena = arena .now;
-      arena-base = arena-base;
-      undo = undo .now;
-      ids = ids .now;
-      build-id = build-id .now;
-      cpus = cpus;
-    } in
+    let l =
+    startLent (text .now) text-base (arena .now) arena-base (undo .now) (ids .now) (build-id .now) cpus in
     let begun =
     begins l (records′ .now) (arena′ .now) (undo′ .now) (ids′ .now) (records .now)
     (subst (λ (n : ℕ). told n (records′ .now) (memory (arena′ .now) (undo′ .now) (ids′ .now)) ≡ startTold (records .now) l) zero (learnt .0))

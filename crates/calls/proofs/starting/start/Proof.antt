@@ -5,6 +5,7 @@ use lib.ListN.{length}
 use Rattle.records.specs.declared.refusal.Verdict.the-variants.{Pass, Refuse}
 use Rattle.startup.specs.Start.{Lent}
 use Rattle.state_bytes.specs.Layout.{recordsSize}
+use Rattle.calls.specs.Changes.{startLent}
 use Rattle.calls.proofs.Laws.{told-invalid}
 use Rattle.calls.proofs.StartLaws.{wrong-size, start-told, refused-start, accepted-start}
 use Rattle.calls.proofs.starting.start.Statement.{statement}
@@ -14,16 +15,7 @@ use Rattle.calls.proofs.starting.start.Tie as tie
 abbrev given : tie.Start → Lent
 given c =
     let a = c .args in
-    record {
-      text = a .text .now;
-      text-base = a .text-base;
-      arena = a .arena .now;
-      arena-base = a .arena-base;
-      undo = a .undo .now;
-      ids = a .ids .now;
-      build-id = a .build-id .now;
-      cpus = a .cpus;
-    }
+    startLent (a .text .now) (a .text-base) (a .arena .now) (a .arena-base) (a .undo .now) (a .ids .now) (a .build-id .now) (a .cpus)
 
 returns : tie.Need-returns
 returns c =
