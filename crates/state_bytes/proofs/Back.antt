@@ -16,8 +16,8 @@ use Rattle.memory.specs.declared.config.Config.{Config}
 use Rattle.state.specs.declared.state.Job.{Job}
 use Rattle.state.specs.declared.state.State.{State}
 use Rattle.state.proofs.Whole.{WholePayload}
-use Rattle.state_bytes.specs.Fields.{joined}
-use Rattle.state_bytes.specs.Stored.{kindNumber, displacementOf, kindFrom, editFields, editBytes, editAt, editsAt, payloadFields, payloadBytes, payloadAt, configFields, configBytes, configAt, flagByte, isSet, jobFields, jobBytes, heldAt, jobAt, countFields, countBytes}
+use Rattle.state_bytes.specs.Fields.{chained}
+use Rattle.state_bytes.specs.Stored.{kindNumber, displacementOf, kindFrom, editFields, storedEdit, editAt, editsAt, payloadFields, payloadBytes, payloadAt, configFields, configBytes, configAt, flagByte, isSet, jobFields, jobBytes, heldAt, jobAt, countFields, countBytes}
 use Rattle.state_bytes.proofs.Fields.{sum, field-at, number-at, row-at}
 use Rattle.state_bytes.proofs.Readers.{editWidths, edit-widths, editsAt-local, payloadWidths, payload-widths, configWidths, config-widths, countWidths, count-widths, jobWidths, job-widths}
 
@@ -34,8 +34,8 @@ pub record EditFits (e : Edit) : Type 0 where
   pub kind : kindNumber (e .kind) < 256 ^ 4
   pub displacement : displacementOf (e .kind) < 256 ^ 8
 
-pub edit-back : (e : Edit) → EditFits e → editAt (editBytes e) 0 ≡ e
-unfolding editAt editBytes
+pub edit-back : (e : Edit) → EditFits e → editAt (storedEdit e) 0 ≡ e
+unfolding editAt storedEdit
 edit-back e fits =
     let number = number-at (editFields e) editWidths (edit-widths e) in
     rw (
@@ -58,7 +58,7 @@ pub record PayloadFits (p : Payload) : Type 0 where
   pub id-length : p .«id_length» < 256 ^ 4
   pub dependency-length : p .dependency .length < 256 ^ 4
   pub edit-count : p .«edit_count» < 256 ^ 4
-  pub edits-back : editsAt (joined (map editBytes (p .edits))) 0 ≡ p .edits
+  pub edits-back : editsAt (chained (map storedEdit (p .edits))) 0 ≡ p .edits
 
 pub payload-back : (p : Payload) → PayloadFits p → payloadAt (payloadBytes p) 0 ≡ p
 unfolding payloadBytes payloadAt

@@ -19,7 +19,7 @@ use Rattle.memory.specs.Config.{cpusMax}
 use Rattle.memory.specs.Memory.{slotCount}
 use Rattle.memory.specs.declared.config.Config.{Config}
 use Rattle.state.specs.declared.state.State.{State}
-use Rattle.state_bytes.specs.Fields.{joined}
+use Rattle.state_bytes.specs.Fields.{chained}
 use Rattle.state_bytes.specs.Flags.{flagsOk, editsOk, kindsOk}
 use Rattle.state_bytes.specs.Layout.{editsPlace, payloadSize, countPlace, jobPlace, heldPlace, stackPlace, payloadsPlace, recordsSize}
 use Rattle.state_bytes.specs.Stored.{payloadBytes, payloadAt, configFields, configBytes, configAt, flagByte, isSet, jobFields, jobBytes, heldAt, jobAt, countFields, countBytes, stateFields, stackAt, payloadsAt, bytesOf, stateIn}
@@ -96,7 +96,7 @@ module _ (b : List ℕ) (known : Bytes b) (whole : length b ≡ recordsSize) whe
       )
       (flags-same (part b heldPlace cpusMax))
 
-  stack-same : equal (joined (map (leBytes 4) (stackAt b stackPlace))) (part b stackPlace (4 * slotCount)) ≡ true
+  stack-same : equal (chained (map (leBytes 4) (stackAt b stackPlace))) (part b stackPlace (4 * slotCount)) ≡ true
   unfolding scan
   stack-same =
       rows-same (leAt 4) (leBytes 4) 4 b stackPlace (λ j. true) slotCount
@@ -108,7 +108,7 @@ module _ (b : List ℕ) (known : Bytes b) (whole : length b ≡ recordsSize) whe
       })
 
   payloads-same :
-      equal (joined (map payloadBytes (payloadsAt b payloadsPlace))) (part b payloadsPlace (payloadSize * slotCount)) ≡ kindsOk b
+      equal (chained (map payloadBytes (payloadsAt b payloadsPlace))) (part b payloadsPlace (payloadSize * slotCount)) ≡ kindsOk b
   unfolding kindsOk
   payloads-same =
       rows-same payloadAt payloadBytes payloadSize b payloadsPlace (λ i. editsOk b (payloadsPlace + payloadSize * i + editsPlace)) slotCount

@@ -1,4 +1,4 @@
--- Laws of `joined`: where a field stands, fields laid one behind the other, and tables of rows of one width.
+-- Laws of `chained`: where a field stands, fields laid one behind the other, and tables of rows of one width.
 use Prim.Native.Nat.{ℕ, zero, suc, _+_, _*_, _^_, _≤_, _<_}
 use mathlib.Core.Path.{_≡_, refl, sym, ap, _∙_}
 use mathlib.Core.List.{List, [], _∷_, _++_, append-nil, append-assoc, map, map-append}
@@ -10,7 +10,7 @@ use Rattle.words.specs.Number.{leAt, leBytes}
 use Rattle.words.specs.Splice.{splice, part}
 use Rattle.words.proofs.Number.{le-leBytes}
 use Rattle.words.proofs.Splice.{splice-none, splice-append}
-use Rattle.state_bytes.specs.Fields.{joined}
+use Rattle.state_bytes.specs.Fields.{chained}
 
 abbrev pub sum : List ℕ → ℕ
 sum [] = 0
@@ -44,66 +44,66 @@ local-on row width local b at n i k h = local b at n (i + k) h ∙ ap (row b) (s
 
 -- ---- fields
 
-pub joined-append : (fs gs : List (List ℕ)) → joined (fs ++ gs) ≡ joined fs ++ joined gs
-unfolding joined
+pub joined-append : (fs gs : List (List ℕ)) → chained (fs ++ gs) ≡ chained fs ++ chained gs
+unfolding chained
 joined-append [] gs = refl
-joined-append (f ∷ fs) gs = rw (joined-append fs gs) (sym (append-assoc f (joined fs) (joined gs)))
+joined-append (f ∷ fs) gs = rw (joined-append fs gs) (sym (append-assoc f (chained fs) (chained gs)))
 
-joined-one : (f : List ℕ) → joined (f ∷ []) ≡ f
-unfolding joined
+joined-one : (f : List ℕ) → chained (f ∷ []) ≡ f
+unfolding chained
 joined-one f = append-nil f
 
-pub joined-more : (fs : List (List ℕ)) (f : List ℕ) → joined (fs ++ (f ∷ [])) ≡ joined fs ++ f
+pub joined-more : (fs : List (List ℕ)) (f : List ℕ) → chained (fs ++ (f ∷ [])) ≡ chained fs ++ f
 joined-more fs f = joined-append fs (f ∷ []) ∙ rw (joined-one f)
 
-joined-length : (fs : List (List ℕ)) → length (joined fs) ≡ sum (map length fs)
-unfolding joined
+joined-length : (fs : List (List ℕ)) → length (chained fs) ≡ sum (map length fs)
+unfolding chained
 joined-length [] = refl
-joined-length (f ∷ fs) = length-append f (joined fs) ∙ ap (λ (n : ℕ). length f + n) (joined-length fs)
+joined-length (f ∷ fs) = length-append f (chained fs) ∙ ap (λ (n : ℕ). length f + n) (joined-length fs)
 
 take-map : {A B : Type 0} (f : A → B) (k : ℕ) (xs : List A) → take k (map f xs) ≡ map f (take k xs)
 take-map f zero xs = refl
 take-map f (suc k) [] = refl
 take-map f (suc k) (x ∷ xs) = ap (λ (l : List _). f x ∷ l) (take-map f k xs)
 
-field-there : (fs : List (List ℕ)) (k : ℕ) → part (joined fs) (sum (take k (map length fs))) (getD (map length fs) k 0) ≡ getD fs k []
-unfolding joined part
+field-there : (fs : List (List ℕ)) (k : ℕ) → part (chained fs) (sum (take k (map length fs))) (getD (map length fs) k 0) ≡ getD fs k []
+unfolding chained part
 field-there [] k = refl
-field-there (f ∷ fs) zero = take-append-seam f (joined fs)
-field-there (f ∷ fs) (suc k) = rw (drop-append-add f (joined fs) (sum (take k (map length fs)))) (field-there fs k)
+field-there (f ∷ fs) zero = take-append-seam f (chained fs)
+field-there (f ∷ fs) (suc k) = rw (drop-append-add f (chained fs) (sum (take k (map length fs)))) (field-there fs k)
 
 -- of fields of these widths
 module _ (fs : List (List ℕ)) (ws : List ℕ) (widths : map length fs ≡ ws) where
-  pub length-joined : length (joined fs) ≡ sum ws
+  pub length-joined : length (chained fs) ≡ sum ws
   length-joined = joined-length fs ∙ ap sum widths
 
   -- where field k stands
-  pub field-at : (k : ℕ) → part (joined fs) (sum (take k ws)) (getD ws k 0) ≡ getD fs k []
+  pub field-at : (k : ℕ) → part (chained fs) (sum (take k ws)) (getD ws k 0) ≡ getD fs k []
   field-at k = rw (← widths) (field-there fs k)
 
   -- a number, read back
-  pub number-at : (k n x : ℕ) → getD ws k 0 ≡ n → getD fs k [] ≡ leBytes n x → x < 256 ^ n → leAt n (joined fs) (sum (take k ws)) ≡ x
+  pub number-at : (k n x : ℕ) → getD ws k 0 ≡ n → getD fs k [] ≡ leBytes n x → x < 256 ^ n → leAt n (chained fs) (sum (take k ws)) ≡ x
   unfolding leAt
   number-at k n x wide here fits = rw (← wide, field-at k, here) (le-leBytes n x fits)
 
   -- what a local reader reads of field k
   pub row-at :
-      {A : Type 0} (row : List ℕ → ℕ → A) (k : ℕ) → Local row (getD ws k 0) → row (joined fs) (sum (take k ws)) ≡ row (getD fs k []) 0
+      {A : Type 0} (row : List ℕ → ℕ → A) (k : ℕ) → Local row (getD ws k 0) → row (chained fs) (sum (take k ws)) ≡ row (getD fs k []) 0
   row-at row k local =
-      rw (← field-at k, local (joined fs) (sum (take k ws)) (getD ws k 0) 0 (omega arith), add-zero (sum (take k ws)))
+      rw (← field-at k, local (chained fs) (sum (take k ws)) (getD ws k 0) 0 (omega arith), add-zero (sum (take k ws)))
 
 -- s is s₀ with the first k fields laid from `at` on
 pub record Laid (fs : List (List ℕ)) (ws s₀ : List ℕ) (at k : ℕ) (s : List ℕ) : Type 0 where
   pub widths : map length fs ≡ ws
   pub fits : at ≤ length s₀
-  pub bytes : s ≡ splice s₀ at (joined (take k fs))
+  pub bytes : s ≡ splice s₀ at (chained (take k fs))
 
 -- m more
 pub laid-several :
     {fs : List (List ℕ)} {ws s₀ : List ℕ} {at k : ℕ} {s t : List ℕ} → Laid fs ws s₀ at k s → (m : ℕ) →
-    t ≡ splice s (at + sum (take k ws)) (joined (take m (drop k fs))) → Laid fs ws s₀ at (k + m) t
+    t ≡ splice s (at + sum (take k ws)) (chained (take m (drop k fs))) → Laid fs ws s₀ at (k + m) t
 laid-several {fs} {ws} {s₀} {at} {k} l m told =
-    let place : sum (take k ws) ≡ length (joined (take k fs)) =
+    let place : sum (take k ws) ≡ length (chained (take k fs)) =
     rw (← l .widths, take-map length k fs) (sym (joined-length (take k fs))) in
     record {
       widths = l .widths;
@@ -111,7 +111,7 @@ laid-several {fs} {ws} {s₀} {at} {k} l m told =
       bytes =
           told
           ∙ rw (l .bytes, place, take-add k m fs, joined-append (take k fs) (take m (drop k fs)))
-          (splice-append s₀ at (joined (take k fs)) (l .fits) (joined (take m (drop k fs))));
+          (splice-append s₀ at (chained (take k fs)) (l .fits) (chained (take m (drop k fs))));
     }
 
 -- one more
@@ -125,7 +125,7 @@ laid-more {fs} {k = k} l more told =
 pub laid-first :
     (fs : List (List ℕ)) {ws : List ℕ} (s₀ : List ℕ) (at : ℕ) {t : List ℕ} → map length fs ≡ ws → at ≤ length s₀ → 0 < length fs →
     t ≡ splice s₀ at (getD fs 0 []) → Laid fs ws s₀ at 1 t
-unfolding joined
+unfolding chained
 laid-first fs s₀ at widths fits more told =
     let none : Laid fs _ s₀ at 0 s₀ = record { widths = widths; fits = fits; bytes = sym (splice-none s₀ at) } in
     laid-more none more (told ∙ rw (add-zero at))
@@ -134,7 +134,7 @@ laid-first fs s₀ at widths fits more told =
 
 module _ {A : Type 0} (bytes : A → List ℕ) where
   abbrev pub table : List A → List ℕ
-  table xs = joined (map bytes xs)
+  table xs = chained (map bytes xs)
 
   pub table-more : (xs : List A) (i : ℕ) (d : A) → i < length xs → table (take (suc i) xs) ≡ table (take i xs) ++ bytes (getD xs i d)
   table-more xs i d h =
@@ -146,7 +146,7 @@ module _ {A : Type 0} (bytes : A → List ℕ) where
     Wide xs d n = (i : ℕ) → i < n → length (bytes (getD xs i d)) ≡ width
 
     pub length-table : (xs : List A) (d : A) → Wide xs d (length xs) → length (table xs) ≡ width * length xs
-    unfolding joined
+    unfolding chained
     length-table [] d wide = sym (mul-zero width)
     length-table (x ∷ xs) d wide =
         length-append (bytes x) (table xs)
@@ -155,7 +155,7 @@ module _ {A : Type 0} (bytes : A → List ℕ) where
     pub row-there :
         (xs : List A) (d : A) → Wide xs d (length xs) → (i : ℕ) → i < length xs →
         part (table xs) (width * i) width ≡ bytes (getD xs i d)
-    unfolding joined part
+    unfolding chained part
     row-there [] d wide i h = absurd (omega arith)
     row-there (x ∷ xs) d wide zero h = rw (mul-zero width) (take-at (bytes x) (table xs) width (wide 0 (omega arith)))
     row-there (x ∷ xs) d wide (suc i) h =

@@ -16,9 +16,9 @@ use Rattle.memory.specs.declared.config.Config.{Config}
 use Rattle.state.specs.declared.state.Job.{Job}
 use Rattle.state.specs.declared.state.State.{State}
 use Rattle.state.proofs.Whole.{WholePayload}
-use Rattle.state_bytes.specs.Fields.{joined}
+use Rattle.state_bytes.specs.Fields.{chained}
 use Rattle.state_bytes.specs.Layout.{editSize, payloadSize, countPlace, dependencyPlace, editCountPlace, editsPlace}
-use Rattle.state_bytes.specs.Stored.{editFields, editBytes, editAt, editsAt, numberFields, payloadFields, payloadBytes, payloadAt, configFields, configBytes, configAt, jobFields, jobBytes, heldAt, jobAt, countFields, countBytes}
+use Rattle.state_bytes.specs.Stored.{editFields, storedEdit, editAt, editsAt, numberFields, payloadFields, payloadBytes, payloadAt, configFields, configBytes, configAt, jobFields, jobBytes, heldAt, jobAt, countFields, countBytes}
 use Rattle.state_bytes.proofs.Fields.{Local, leAt-local, local-on, part-part, length-joined, length-table}
 use Rattle.state_bytes.proofs.Rows.{rowsAt-local}
 
@@ -46,8 +46,8 @@ editWidths = 4 ∷ 4 ∷ 4 ∷ 8 ∷ []
 pub edit-widths : (e : Edit) → map length (editFields e) ≡ editWidths
 edit-widths e = simp length-leBytes
 
-pub length-edit : (e : Edit) → length (editBytes e) ≡ editSize
-unfolding editBytes
+pub length-edit : (e : Edit) → length (storedEdit e) ≡ editSize
+unfolding storedEdit
 length-edit e = length-joined (editFields e) editWidths (edit-widths e)
 
 -- ---- the edits of a payload
@@ -55,8 +55,8 @@ length-edit e = length-joined (editFields e) editWidths (edit-widths e)
 pub editsAt-local : Local editsAt (editSize * recordsMax)
 editsAt-local = rowsAt-local editAt editSize recordsMax editAt-local
 
-pub length-edits : (es : List Edit) → length (joined (map editBytes es)) ≡ editSize * length es
-length-edits es = length-table editBytes editSize es (record { offset = 0; length = 0; kind = Fill }) (λ i h. length-edit _)
+pub length-edits : (es : List Edit) → length (chained (map storedEdit es)) ≡ editSize * length es
+length-edits es = length-table storedEdit editSize es (record { offset = 0; length = 0; kind = Fill }) (λ i h. length-edit _)
 
 -- ---- a payload
 

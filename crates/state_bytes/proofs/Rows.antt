@@ -13,7 +13,7 @@ use Rattle.words.specs.Scan.{each, scan}
 use Rattle.words.specs.Splice.{splice, part}
 use Rattle.words.proofs.Number.{le-leBytes, length-leBytes}
 use Rattle.words.proofs.Splice.{splice-none, splice-append, length-splice, getD-default}
-use Rattle.state_bytes.specs.Fields.{joined, rowsAt}
+use Rattle.state_bytes.specs.Fields.{chained, rowsAt}
 use Rattle.state_bytes.proofs.Fields.{Local, table, Wide, table-more, length-table, row-there}
 
 -- ---- values in a row
@@ -93,7 +93,7 @@ module _ {A : Type 0} (bytes : A → List ℕ) (row : List ℕ → ℕ → A) (w
       pub whole : length s ≡ length s₀
 
     pub table-begin : Table 0 s₀
-    unfolding joined
+    unfolding chained
     table-begin = record { rows = λ i h. absurd (omega arith); written = sym (splice-none s₀ at); whole = refl }
 
     pub table-turn :

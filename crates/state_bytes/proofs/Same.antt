@@ -17,7 +17,7 @@ use Rattle.words.proofs.Number.{leAt-more, le-leBytes}
 use Rattle.words.proofs.Order.{equal-same, equal-true}
 use Rattle.words.proofs.Scan.{length-each, getD-each}
 use Rattle.words.proofs.Splice.{length-part}
-use Rattle.state_bytes.specs.Fields.{joined, rowsAt}
+use Rattle.state_bytes.specs.Fields.{chained, rowsAt}
 use Rattle.state_bytes.specs.Flags.{allBelow}
 use Rattle.state_bytes.proofs.Fields.{sum, Wide, length-table}
 use Rattle.state_bytes.proofs.Loads.{part-more}
@@ -88,8 +88,8 @@ matching b at off (f ∷ fs) (w ∷ ws) = equal f (part b (at + off) w) && match
 
 fields-match :
     (b : List ℕ) (at off : ℕ) (fs : List (List ℕ)) (ws : List ℕ) → map length fs ≡ ws → at + off + sum ws ≤ length b →
-    equal (joined fs) (part b (at + off) (sum ws)) ≡ matching b at off fs ws
-unfolding joined equal part
+    equal (chained fs) (part b (at + off) (sum ws)) ≡ matching b at off fs ws
+unfolding chained equal part
 fields-match b at off [] [] e h = refl
 fields-match b at off [] (w ∷ ws) e h = cc
 fields-match b at off (f ∷ fs) [] e h = cc
@@ -97,12 +97,12 @@ fields-match b at off (f ∷ fs) (w ∷ ws) e h =
     let wide : length f ≡ w = cc in
     let others : map length fs ≡ ws = cc in
     let here : length f ≡ length (part b (at + off) w) = wide ∙ sym (length-part b (at + off) w (omega arith)) in
-    rw (part-add b (at + off) w (sum ws), equal-append f (joined fs) _ _ here, add-assoc at off w)
+    rw (part-add b (at + off) w (sum ws), equal-append f (chained fs) _ _ here, add-assoc at off w)
     (ap (λ t. equal f (part b (at + off) w) && t) (fields-match b at (off + w) fs ws others (omega arith)))
 
 pub fields-same :
     (b : List ℕ) (at : ℕ) (fs : List (List ℕ)) (ws : List ℕ) → map length fs ≡ ws → at + sum ws ≤ length b →
-    equal (joined fs) (part b at (sum ws)) ≡ matching b at 0 fs ws
+    equal (chained fs) (part b at (sum ws)) ≡ matching b at 0 fs ws
 fields-same b at fs ws e h = rw (add-zero at) at (fields-match b at 0 fs ws e (omega arith))
 
 -- ---- rows
@@ -113,7 +113,7 @@ module _ {A : Type 0} (row : List ℕ → ℕ → A) (bytes : A → List ℕ) (w
   again j = bytes (row b (at + width * j))
 
   pub length-rows :
-      (n : ℕ) → ((j : ℕ) → j < n → length (again j) ≡ width) → length (joined (map bytes (rowsAt row width n b at))) ≡ width * n
+      (n : ℕ) → ((j : ℕ) → j < n → length (again j) ≡ width) → length (chained (map bytes (rowsAt row width n b at))) ≡ width * n
   unfolding rowsAt
   length-rows n wide =
       let value : ℕ → A = λ j. row b (at + width * j) in
@@ -131,9 +131,9 @@ module _ {A : Type 0} (row : List ℕ → ℕ → A) (bytes : A → List ℕ) (w
 
     some-same :
         (i k : ℕ) → ((j : ℕ) → i ≤ j → j < i + k → Kept j) →
-        equal (joined (map bytes (each (λ j. row b (at + width * j)) i k))) (part b (at + width * i) (width * k))
+        equal (chained (map bytes (each (λ j. row b (at + width * j)) i k))) (part b (at + width * i) (width * k))
         ≡ scan (λ j rest. test j && rest) true i k
-    unfolding scan joined equal part
+    unfolding scan chained equal part
     some-same i zero rows = rw (mul-zero width)
     some-same i (suc k) rows =
         let r = rows i (omega arith) (omega arith) in
@@ -145,6 +145,6 @@ module _ {A : Type 0} (row : List ℕ → ℕ → A) (bytes : A → List ℕ) (w
 
     pub rows-same :
         (n : ℕ) → ((j : ℕ) → j < n → Kept j) →
-        equal (joined (map bytes (rowsAt row width n b at))) (part b at (width * n)) ≡ allBelow test n
+        equal (chained (map bytes (rowsAt row width n b at))) (part b at (width * n)) ≡ allBelow test n
     unfolding rowsAt
     rows-same n rows = rw (mul-zero width, add-zero at) at (some-same 0 n (λ j h g. rows j (omega arith)))

@@ -16,10 +16,10 @@ use Rattle.words.proofs.Number.{length-leBytes}
 use Rattle.words.proofs.Order.{equal-same}
 use Rattle.words.proofs.Splice.{length-part}
 use Rattle.records.specs.Limits.{nameMax, idMax, recordsMax}
-use Rattle.state_bytes.specs.Fields.{joined}
+use Rattle.state_bytes.specs.Fields.{chained}
 use Rattle.state_bytes.specs.Flags.{kindOk, editsOk}
 use Rattle.state_bytes.specs.Layout.{editSize, dependencyPlace, editCountPlace, editsPlace, payloadSize}
-use Rattle.state_bytes.specs.Stored.{kindNumber, displacementOf, kindFrom, editFields, editBytes, editAt, editsAt, payloadFields, payloadBytes, payloadAt}
+use Rattle.state_bytes.specs.Stored.{kindNumber, displacementOf, kindFrom, editFields, storedEdit, editAt, editsAt, payloadFields, payloadBytes, payloadAt}
 use Rattle.state_bytes.proofs.Fields.{length-joined}
 use Rattle.state_bytes.proofs.Readers.{editWidths, edit-widths, length-edit, payloadWidths}
 use Rattle.state_bytes.proofs.Same.{Bytes, kept, number-same, fields-same, length-rows, rows-same}
@@ -58,8 +58,8 @@ module _ (b : List ℕ) (known : Bytes b) where
             )
             (fill-same (leAt 4 b (at + 8)) (leAt 8 b (at + 12)))
 
-    edit-same : equal (editBytes (editAt b at)) (part b at editSize) ≡ kindOk b at
-    unfolding editBytes editAt
+    edit-same : equal (storedEdit (editAt b at)) (part b at editSize) ≡ kindOk b at
+    unfolding storedEdit editAt
     edit-same =
         fields-same b at (editFields (editAt b at)) editWidths (edit-widths (editAt b at)) (omega arith)
         ∙ rw (add-zero at, kept b known 4 at (omega arith), kept b known 4 (at + 4) (omega arith), and-true) kind-same
@@ -67,10 +67,10 @@ module _ (b : List ℕ) (known : Bytes b) where
   -- the edits from this place on
   edits-same :
       (at : ℕ) → at + editSize * recordsMax ≤ length b →
-      equal (joined (map editBytes (editsAt b at))) (part b at (editSize * recordsMax)) ≡ editsOk b at
+      equal (chained (map storedEdit (editsAt b at))) (part b at (editSize * recordsMax)) ≡ editsOk b at
   unfolding editsOk
   edits-same at within =
-      rows-same editAt editBytes editSize b at (λ j. kindOk b (at + editSize * j)) recordsMax
+      rows-same editAt storedEdit editSize b at (λ j. kindOk b (at + editSize * j)) recordsMax
       (λ j h.
       record {
         within = omega arith;
@@ -88,7 +88,7 @@ module _ (b : List ℕ) (known : Bytes b) where
           length-leBytes,
           length-part b at nameMax (omega arith),
           length-part b (at + dependencyPlace) idMax (omega arith),
-          length-rows editAt editBytes editSize b (at + editsPlace) recordsMax (λ j h. length-edit _),
+          length-rows editAt storedEdit editSize b (at + editsPlace) recordsMax (λ j h. length-edit _),
         )
 
     pub length-payload : length (payloadBytes (payloadAt b at)) ≡ payloadSize

@@ -13,7 +13,7 @@ use Rattle.memory.specs.Config.{cpusMax}
 use Rattle.memory.specs.Memory.{slotCount}
 use Rattle.state.specs.declared.state.State.{State}
 use Rattle.state.proofs.Whole as arrays
-use Rattle.state_bytes.specs.Fields.{joined}
+use Rattle.state_bytes.specs.Fields.{chained}
 use Rattle.state_bytes.specs.Layout.{payloadSize, countPlace, recordsSize}
 use Rattle.state_bytes.specs.Stored.{payloadBytes, payloadAt, configBytes, configAt, jobBytes, jobAt, countBytes, stateFields, bytesOf, stackAt, payloadsAt, stateIn, isState, Holds}
 use Rattle.state_bytes.proofs.Fields.{sum, Local, leAt-local, length-joined, field-at, row-at, length-table}
@@ -25,10 +25,10 @@ abbrev pub stateWidths : List ℕ
 stateWidths = countPlace ∷ 20 ∷ (16 + cpusMax) ∷ (4 * slotCount) ∷ (payloadSize * slotCount) ∷ []
 
 module _ (s : State) (w : arrays.Whole s) where
-  length-stack : length (joined (map (leBytes 4) (s .stack))) ≡ 4 * slotCount
+  length-stack : length (chained (map (leBytes 4) (s .stack))) ≡ 4 * slotCount
   length-stack = length-table (leBytes 4) 4 (s .stack) 0 (λ i h. length-leBytes 4 _) ∙ rw (w .stack)
 
-  length-payloads : length (joined (map payloadBytes (s .payloads))) ≡ payloadSize * slotCount
+  length-payloads : length (chained (map payloadBytes (s .payloads))) ≡ payloadSize * slotCount
   length-payloads =
       length-table payloadBytes payloadSize (s .payloads) empty (λ i h. length-payload _ (w .each-payload i (omega (arith, w .payloads))))
       ∙ rw (w .payloads)
@@ -48,8 +48,8 @@ pub record StateFits (s : State) : Type 0 where
   pub depth : s .depth < 256 ^ 8
   pub version : s .version < 256 ^ 4
   pub job : jobAt (jobBytes (s .job)) 0 ≡ s .job
-  pub stack : stackAt (joined (map (leBytes 4) (s .stack))) 0 ≡ s .stack
-  pub payloads : payloadsAt (joined (map payloadBytes (s .payloads))) 0 ≡ s .payloads
+  pub stack : stackAt (chained (map (leBytes 4) (s .stack))) 0 ≡ s .stack
+  pub payloads : payloadsAt (chained (map payloadBytes (s .payloads))) 0 ≡ s .payloads
 
 module _ (s : State) (fits : StateFits s) where
   -- what a reader reads of part k
@@ -63,7 +63,7 @@ module _ (s : State) (fits : StateFits s) where
   counted : (n i : ℕ) → i + n ≤ 20 → leAt n (bytesOf s) (countPlace + i) ≡ leAt n (countBytes s) i
   unfolding bytesOf
   counted n i h =
-      sym (leAt-local n (joined (stateFields s)) countPlace 20 i h)
+      sym (leAt-local n (chained (stateFields s)) countPlace 20 i h)
       ∙ ap (λ (l : List ℕ). leAt n l i) (field-at (stateFields s) stateWidths (state-widths s (fits .whole)) 1)
 
   pub state-back : stateIn (bytesOf s) ≡ s

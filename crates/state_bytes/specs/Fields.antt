@@ -3,9 +3,9 @@ use Prim.Native.Nat.{ℕ, _+_, _*_}
 use mathlib.Core.List.{List, [], _∷_, _++_}
 use Rattle.words.specs.Scan.{each}
 
-unfoldable pub joined : List (List ℕ) → List ℕ
-joined [] = []
-joined (field ∷ fields) = field ++ joined fields
+unfoldable pub chained : List (List ℕ) → List ℕ
+chained [] = []
+chained (field ∷ fields) = field ++ chained fields
 
 -- n rows of this width, from a place on, each read by `row`
 unfoldable pub rowsAt : {A : Type 0} → (List ℕ → ℕ → A) → ℕ → ℕ → List ℕ → ℕ → List A

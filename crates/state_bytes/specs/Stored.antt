@@ -20,7 +20,7 @@ use Rattle.memory.specs.Memory.{slotCount}
 use Rattle.memory.specs.declared.config.Config.{Config}
 use Rattle.state.specs.declared.state.Job.{Job}
 use Rattle.state.specs.declared.state.State.{State}
-use Rattle.state_bytes.specs.Fields.{joined, rowsAt}
+use Rattle.state_bytes.specs.Fields.{chained, rowsAt}
 use Rattle.state_bytes.specs.Layout.{
   editSize,
   dependencyPlace,
@@ -52,8 +52,8 @@ abbrev pub editFields : Edit → List (List ℕ)
 editFields e =
     leBytes 4 (e .offset) ∷ leBytes 4 (e .length) ∷ leBytes 4 (kindNumber (e .kind)) ∷ leBytes 8 (displacementOf (e .kind)) ∷ []
 
-unfoldable pub editBytes : Edit → List ℕ
-editBytes e = joined (editFields e)
+unfoldable pub storedEdit : Edit → List ℕ
+storedEdit e = chained (editFields e)
 
 unfoldable pub editAt : List ℕ → ℕ → Edit
 editAt b at =
@@ -75,10 +75,10 @@ numberFields p =
 abbrev pub payloadFields : Payload → List (List ℕ)
 payloadFields p =
     p .name
-    ∷ (numberFields p ++ (p .dependency .bytes ∷ leBytes 4 (p .«edit_count») ∷ joined (map editBytes (p .edits)) ∷ []))
+    ∷ (numberFields p ++ (p .dependency .bytes ∷ leBytes 4 (p .«edit_count») ∷ chained (map storedEdit (p .edits)) ∷ []))
 
 unfoldable pub payloadBytes : Payload → List ℕ
-payloadBytes p = joined (payloadFields p)
+payloadBytes p = chained (payloadFields p)
 
 abbrev pub dependencyAt : List ℕ → ℕ → BuildId
 dependencyAt b at = record { bytes = part b (at + dependencyPlace) idMax; length = leAt 4 b (at + (nameMax + 20)) }
@@ -112,7 +112,7 @@ configFields c =
     ∷ []
 
 unfoldable pub configBytes : Config → List ℕ
-configBytes c = joined (configFields c)
+configBytes c = chained (configFields c)
 
 unfoldable pub configAt : List ℕ → ℕ → Config
 configAt b at =
@@ -145,7 +145,7 @@ jobFields j =
     ∷ []
 
 unfoldable pub jobBytes : Job → List ℕ
-jobBytes j = joined (jobFields j)
+jobBytes j = chained (jobFields j)
 
 unfoldable pub heldAt : List ℕ → ℕ → List Bool
 heldAt b at = map isSet (part b at cpusMax)
@@ -167,20 +167,20 @@ abbrev pub countFields : State → List (List ℕ)
 countFields s = leBytes 8 (s .count) ∷ leBytes 8 (s .depth) ∷ leBytes 4 (s .version) ∷ []
 
 unfoldable pub countBytes : State → List ℕ
-countBytes s = joined (countFields s)
+countBytes s = chained (countFields s)
 
 abbrev pub stateFields : State → List (List ℕ)
 stateFields s =
     configBytes (s .config)
     ∷ countBytes s
     ∷ jobBytes (s .job)
-    ∷ joined (map (leBytes 4) (s .stack))
-    ∷ joined (map payloadBytes (s .payloads))
+    ∷ chained (map (leBytes 4) (s .stack))
+    ∷ chained (map payloadBytes (s .payloads))
     ∷ []
 
 -- the records buffer of a state
 unfoldable pub bytesOf : State → List ℕ
-bytesOf s = joined (stateFields s)
+bytesOf s = chained (stateFields s)
 
 abbrev pub stackAt : List ℕ → ℕ → List ℕ
 stackAt = rowsAt (leAt 4) 4 slotCount

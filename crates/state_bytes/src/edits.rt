@@ -5,10 +5,10 @@ ghost use Prim.Native.Nat.{_+_, _*_, _≤_};
 ghost use lib.ListN.{length};
 ghost use Rattle.words.specs.Splice.{splice};
 ghost use Rattle.records.specs.Limits.{recordsMax};
-ghost use Rattle.state_bytes.specs.Fields.{joined};
+ghost use Rattle.state_bytes.specs.Fields.{chained};
 ghost use Rattle.state_bytes.specs.Flags.{kindOk, editsOk};
 ghost use Rattle.state_bytes.specs.Layout.{editSize};
-ghost use Rattle.state_bytes.specs.Stored.{kindNumber, displacementOf, kindFrom, editBytes, editAt, editsAt};
+ghost use Rattle.state_bytes.specs.Stored.{kindNumber, displacementOf, kindFrom, storedEdit, editAt, editsAt};
 use super::layout;
 use super::numbers;
 use records::payload::Edit;
@@ -60,8 +60,8 @@ fn load_edit(b: &[u8], at: usize) -> Edit
 // What is stored is read back.
 fn store_edit(b: &mut [u8], at: usize, edit: Edit)
     requires { ⌜ at + editSize ≤ length (now b) ⌝ }
-    ensures { λ r. ⌜ now (b .exit) ≡ splice (now (b .entry)) at (editBytes edit) ⌝ }
-    ensures { λ r. ⌜ editAt (editBytes edit) 0 ≡ edit ⌝ }
+    ensures { λ r. ⌜ now (b .exit) ≡ splice (now (b .entry)) at (storedEdit edit) ⌝ }
+    ensures { λ r. ⌜ editAt (storedEdit edit) 0 ≡ edit ⌝ }
 {
     let kind = edit.kind;
     numbers::store4(b, at, edit.offset);
@@ -87,8 +87,8 @@ pub(crate) fn load_edits(b: &[u8], at: usize) -> [Edit; Payload::RECORDS_MAX]
 
 pub(crate) fn store_edits(b: &mut [u8], at: usize, edits: [Edit; Payload::RECORDS_MAX])
     requires { ⌜ at + editSize * recordsMax ≤ length (now b) ⌝ }
-    ensures { λ r. ⌜ now (b .exit) ≡ splice (now (b .entry)) at (joined (map editBytes edits)) ⌝ }
-    ensures { λ r. ⌜ (length edits ≡ recordsMax) × (editsAt (joined (map editBytes edits)) 0 ≡ edits) ⌝ }
+    ensures { λ r. ⌜ now (b .exit) ≡ splice (now (b .entry)) at (chained (map storedEdit edits)) ⌝ }
+    ensures { λ r. ⌜ (length edits ≡ recordsMax) × (editsAt (chained (map storedEdit edits)) 0 ≡ edits) ⌝ }
 {
     let mut i = 0;
     while i < Payload::RECORDS_MAX {

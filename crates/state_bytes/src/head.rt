@@ -7,7 +7,7 @@ ghost use Rattle.words.specs.Number.{leBytes};
 ghost use Rattle.words.specs.Splice.{splice};
 ghost use Rattle.memory.specs.Config.{cpusMax};
 ghost use Rattle.memory.specs.Memory.{slotCount};
-ghost use Rattle.state_bytes.specs.Fields.{joined};
+ghost use Rattle.state_bytes.specs.Fields.{chained};
 ghost use Rattle.state_bytes.specs.Flags.{flagsOk};
 ghost use Rattle.state_bytes.specs.Layout.{countPlace, jobPlace, heldPlace, stackPlace, recordsSize};
 ghost use Rattle.state_bytes.specs.Stored.{
@@ -156,8 +156,8 @@ pub(crate) fn load_stack(b: &[u8]) -> [u32; Config::SLOTS]
 
 pub(crate) fn store_stack(b: &mut [u8], stack: [u32; Config::SLOTS])
     requires { ⌜ length (now b) ≡ recordsSize ⌝ }
-    ensures { λ r. ⌜ now (b .exit) ≡ splice (now (b .entry)) stackPlace (joined (map (leBytes 4) stack)) ⌝ }
-    ensures { λ r. ⌜ (length stack ≡ slotCount) × (stackAt (joined (map (leBytes 4) stack)) 0 ≡ stack) ⌝ }
+    ensures { λ r. ⌜ now (b .exit) ≡ splice (now (b .entry)) stackPlace (chained (map (leBytes 4) stack)) ⌝ }
+    ensures { λ r. ⌜ (length stack ≡ slotCount) × (stackAt (chained (map (leBytes 4) stack)) 0 ≡ stack) ⌝ }
 {
     let mut i = 0;
     while i < Config::SLOTS {

@@ -6,7 +6,7 @@ ghost use lib.ListN.{length};
 ghost use Rattle.words.specs.Splice.{part, splice};
 ghost use Rattle.records.specs.Limits.{nameMax, idMax};
 ghost use Rattle.memory.specs.Memory.{slotCount};
-ghost use Rattle.state_bytes.specs.Fields.{joined};
+ghost use Rattle.state_bytes.specs.Fields.{chained};
 ghost use Rattle.state_bytes.specs.Flags.{kindsOk};
 ghost use Rattle.state_bytes.specs.Layout.{payloadSize, recordsSize, payloadsPlace};
 ghost use Rattle.state_bytes.specs.Stored.{dependencyAt, numberFields, payloadBytes, payloadAt, payloadsAt};
@@ -85,7 +85,7 @@ fn store_id(b: &mut [u8], at: usize, id: &[u8; Payload::ID_MAX])
 // The numbers behind the name, each of which fits its 4 bytes.
 fn store_numbers(b: &mut [u8], at: usize, payload: Payload)
     requires { ⌜ at + payloadSize ≤ length (now b) ⌝ }
-    ensures { λ r. ⌜ now (b .exit) ≡ splice (now (b .entry)) (at + nameMax) (joined (numberFields payload)) ⌝ }
+    ensures { λ r. ⌜ now (b .exit) ≡ splice (now (b .entry)) (at + nameMax) (chained (numberFields payload)) ⌝ }
     ensures { λ r. ⌜ (payload .«name_length» < 256 ^ 4) × (payload .slot < 256 ^ 4) × (payload .status < 256 ^ 4)
         × (payload .result < 256 ^ 4) × (payload .«id_length» < 256 ^ 4) × (payload .dependency .length < 256 ^ 4) ⌝ }
 {
@@ -132,8 +132,8 @@ pub(crate) fn load_payloads(b: &[u8]) -> [Payload; Config::SLOTS]
 
 pub(crate) fn store_payloads(b: &mut [u8], payloads: [Payload; Config::SLOTS])
     requires { ⌜ length (now b) ≡ recordsSize ⌝ }
-    ensures { λ r. ⌜ now (b .exit) ≡ splice (now (b .entry)) payloadsPlace (joined (map payloadBytes payloads)) ⌝ }
-    ensures { λ r. ⌜ (length payloads ≡ slotCount) × (payloadsAt (joined (map payloadBytes payloads)) 0 ≡ payloads) ⌝ }
+    ensures { λ r. ⌜ now (b .exit) ≡ splice (now (b .entry)) payloadsPlace (chained (map payloadBytes payloads)) ⌝ }
+    ensures { λ r. ⌜ (length payloads ≡ slotCount) × (payloadsAt (chained (map payloadBytes payloads)) 0 ≡ payloads) ⌝ }
 {
     let mut i = 0;
     while i < Config::SLOTS {

@@ -1,7 +1,7 @@
 -- `store_edit` meets its contract: the four numbers, one behind the other, are the edit's bytes.
 use native.Mathlib.Omega.{arith}
 use borrow.Author.Needs.{needs}
-use Rattle.state_bytes.specs.Stored.{editFields, editBytes}
+use Rattle.state_bytes.specs.Stored.{editFields, storedEdit}
 use Rattle.state_bytes.proofs.Fields.{laid-first, laid-more}
 use Rattle.state_bytes.proofs.Readers.{edit-widths}
 use Rattle.state_bytes.proofs.Back.{edit-back}
@@ -9,7 +9,7 @@ use Rattle.state_bytes.proofs.edits.store_edit.Statement.{statement}
 use Rattle.state_bytes.proofs.edits.store_edit.Tie as tie
 
 returns : tie.Need-returns
-unfolding editBytes
+unfolding storedEdit
 returns c =
     let fourth = c .before .before in
     let third = fourth .before .before .before .before .before in

@@ -7,14 +7,14 @@ use Rattle.records.specs.Limits.{recordsMax}
 use Rattle.records.specs.Payload.{noEdit}
 use Rattle.records.proofs.Edits.{copied}
 use Rattle.state_bytes.specs.Layout.{editSize}
-use Rattle.state_bytes.specs.Stored.{editBytes, editAt}
+use Rattle.state_bytes.specs.Stored.{storedEdit, editAt}
 use Rattle.state_bytes.proofs.Rows.{rows-back, Table, table-begin, table-turn, table-end}
 use Rattle.state_bytes.proofs.Readers.{editAt-local, length-edit}
 use Rattle.state_bytes.proofs.edits.store_edits.Statement.{statement}
 use Rattle.state_bytes.proofs.edits.store_edits.Tie as tie
 
 abbrev Inv-loop : tie.InvT-loop
-Inv-loop b₀ at edits i₀ b i = (i ≤ recordsMax) × Table editBytes editAt editSize edits noEdit b₀ at i b
+Inv-loop b₀ at edits i₀ b i = (i ≤ recordsMax) × Table storedEdit editAt editSize edits noEdit b₀ at i b
 
 abbrev μ-loop : tie.MeasureT-loop
 μ-loop b₀ at edits i₀ b i = recordsMax - i
