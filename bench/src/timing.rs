@@ -1,4 +1,4 @@
-//! Two calls timed in turn, by the time that the thread has on a CPU, so that other work of the machine counts little.
+//! What is timed, in turn, by the time that the thread has on a CPU, so that other work of the machine counts little.
 
 /// Linux on x86-64.
 #[repr(C)]
@@ -22,13 +22,13 @@ fn now() -> u64 {
     (time.seconds * 1_000_000_000 + time.nanos) as u64
 }
 
-/// The times of one call over all rounds, in nanoseconds and in order.
+/// The times of one thing over all rounds, in nanoseconds and in order.
 pub struct Times(Vec<u64>);
 
 impl Times {
-    /// The time that a share of the rounds, in percent, did not exceed: 0 is the least, 50 the median.
-    pub fn at(&self, percent: usize) -> u64 {
-        self.0[(self.0.len() - 1) * percent / 100]
+    /// The time that a share of the rounds, in percent, did not exceed, in microseconds: 0 is the least, 50 the median.
+    pub fn at(&self, percent: usize) -> f64 {
+        self.0[(self.0.len() - 1) * percent / 100] as f64 / 1000.0
     }
 }
 
@@ -42,32 +42,41 @@ pub fn black_box<T>(value: T) -> T {
     }
 }
 
-fn timed(call: &mut dyn FnMut() -> u64) -> u64 {
-    let start = now();
-    black_box(call());
-    now() - start
+/// Something that is timed.
+pub trait Timed {
+    /// What comes before it in every round, outside the time.
+    fn before(&mut self) {}
+
+    /// What is timed. The answer is 0, or something is wrong.
+    fn run(&mut self) -> u64;
 }
 
-/// Times both calls in every round, each first in every other one, after rounds that do not count.
-pub fn alternate(
-    rounds: usize,
-    before: &mut dyn FnMut(),
-    a: &mut dyn FnMut() -> u64,
-    b: &mut dyn FnMut() -> u64,
-) -> [Times; 2] {
-    let mut times = [Vec::new(), Vec::new()];
+impl<F: FnMut() -> u64> Timed for F {
+    fn run(&mut self) -> u64 {
+        self()
+    }
+}
+
+fn time(timed: &mut dyn Timed) -> u64 {
+    timed.before();
+    let start = now();
+    let answer = black_box(timed.run());
+    let taken = now() - start;
+    assert_eq!(answer, 0, "what is timed was refused");
+    taken
+}
+
+/// Times all of them in every round, each first equally often, after rounds that do not count.
+pub fn in_turn<const N: usize>(rounds: usize, timed: [&mut dyn Timed; N]) -> [Times; N] {
+    let mut times = [(); N].map(|_| Vec::new());
     let warm = rounds / 4;
     for round in 0..warm + rounds {
-        before();
-        let taken = if round % 2 == 0 {
-            let a = timed(a);
-            [a, timed(b)]
-        } else {
-            let b = timed(b);
-            [timed(a), b]
-        };
-        if round >= warm {
-            times.iter_mut().zip(taken).for_each(|(times, time)| times.push(time));
+        for turn in 0..N {
+            let which = (round + turn) % N;
+            let taken = time(timed[which]);
+            if round >= warm {
+                times[which].push(taken);
+            }
         }
     }
     times.map(|mut times| {
