@@ -6,61 +6,79 @@ ghost use mathlib.Core.List.{reverse};
 ghost use Rattle.memory.specs.Memory.{slotCount};
 ghost use Rattle.state.specs.State.{stackOf};
 ghost use Rattle.state.specs.Steps.{removalsIn, removing, laying, stepCount};
-use state::find;
+ghost use Rattle.ranges.specs.Outline.{Outlines};
+use super::outline;
+use super::outline::Outline;
 use state::state::Job;
 use state::state::State;
 
 // The edits of all applied payloads.
-fn applied_count(state: State) -> u64
-    requires { ⌜ (state .count ≤ slotCount) × (state .depth ≤ slotCount) ⌝ }
-    ensures { λ r. ⌜ (r ≡ length (removalsIn state (reverse (stackOf state)))) × (r < 2 ^ 36) ⌝ }
+fn applied_edits(outline: Outline) -> u64
+    requires { ⌜ (outline .count ≤ slotCount) × (outline .depth ≤ slotCount) ⌝ }
+    ensures { λ r. ⌜ ((s : State) → Outlines outline s → r ≡ length (removalsIn s (reverse (stackOf s)))) × (r < 2 ^ 36) ⌝ }
 {
     let mut total = 0;
-    let mut i = state.depth;
+    let mut i = outline.depth;
     while 0 < i {
         i -= 1;
-        let slot = state.stack[i];
-        let payload = find::payload_in(state, slot);
-        total += payload.edit_count as u64;
+        total += outline::edits_in(outline, outline.stack[i]) as u64;
     }
     total
 }
 
 // How many edits the job takes off.
-pub fn removal_count(state: State) -> u64
-    requires { ⌜ (state .count ≤ slotCount) × (state .depth ≤ slotCount) ⌝ }
-    ensures { λ r. ⌜ (r ≡ length (removing state)) × (r < 2 ^ 36) ⌝ }
+fn removed_edits(outline: Outline) -> u64
+    requires { ⌜ (outline .count ≤ slotCount) × (outline .depth ≤ slotCount) ⌝ }
+    ensures { λ r. ⌜ ((s : State) → Outlines outline s → r ≡ length (removing s)) × (r < 2 ^ 36) ⌝ }
 {
-    let job = state.job;
-    if job.action == Job::REVERT {
-        let payload = find::payload_in(state, job.slot);
-        return payload.edit_count as u64;
+    if outline.action == Job::REVERT {
+        return outline::edits_in(outline, outline.slot) as u64;
     }
-    if job.action == Job::REPLACE {
-        return applied_count(state);
+    if outline.action == Job::REPLACE {
+        return applied_edits(outline);
     }
     0
 }
 
 // How many edits it lays.
+fn laid_edits(outline: Outline) -> u64
+    requires { ⌜ outline .count ≤ slotCount ⌝ }
+    ensures { λ r. ⌜ ((s : State) → Outlines outline s → r ≡ length (laying s)) × (r < 2 ^ 32) ⌝ }
+{
+    if outline.action != Job::APPLY {
+        if outline.action != Job::REPLACE {
+            return 0;
+        }
+    }
+    outline::edits_in(outline, outline.slot) as u64
+}
+
+// Both.
+pub(crate) fn all_steps(outline: Outline) -> u64
+    requires { ⌜ (outline .count ≤ slotCount) × (outline .depth ≤ slotCount) ⌝ }
+    ensures { λ r. ⌜ ((s : State) → Outlines outline s → r ≡ stepCount s) ⌝ }
+{
+    removed_edits(outline) + laid_edits(outline)
+}
+
+// The same of a whole state.
+pub fn removal_count(state: State) -> u64
+    requires { ⌜ (state .count ≤ slotCount) × (state .depth ≤ slotCount) ⌝ }
+    ensures { λ r. ⌜ (r ≡ length (removing state)) × (r < 2 ^ 36) ⌝ }
+{
+    removed_edits(outline::outline_of(state))
+}
+
 pub fn laying_count(state: State) -> u64
     requires { ⌜ state .count ≤ slotCount ⌝ }
     ensures { λ r. ⌜ (r ≡ length (laying state)) × (r < 2 ^ 32) ⌝ }
 {
-    let job = state.job;
-    if job.action != Job::APPLY {
-        if job.action != Job::REPLACE {
-            return 0;
-        }
-    }
-    let payload = find::payload_in(state, job.slot);
-    payload.edit_count as u64
+    laid_edits(outline::outline_of(state))
 }
 
-// Both.
 pub fn step_count(state: State) -> u64
     requires { ⌜ (state .count ≤ slotCount) × (state .depth ≤ slotCount) ⌝ }
     ensures { λ r. ⌜ r ≡ stepCount state ⌝ }
 {
-    removal_count(state) + laying_count(state)
+    all_steps(outline::outline_of(state))
 }

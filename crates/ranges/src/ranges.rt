@@ -7,6 +7,8 @@ ghost use Rattle.records.specs.Limits.{recordsMax};
 ghost use Rattle.machine.specs.Host.{machineOf};
 ghost use Rattle.memory.specs.Memory.{slotCount};
 ghost use Rattle.state.specs.Find.{isTaken};
+ghost use Rattle.state.specs.State.{stackOf};
+ghost use Rattle.ranges.specs.Outline.{Outlines};
 ghost use Rattle.ranges.specs.Ranges.{
   isEditLength,
   editInRange,
@@ -20,15 +22,15 @@ ghost use Rattle.ranges.specs.Ranges.{
   jobInRange,
   inRange,
 };
-ghost use Rattle.state.specs.State.{loaded, stackOf};
 use super::counts;
+use super::outline;
+use super::outline::Outline;
 use machine::processor::Processor;
 use memory::config::Config;
 use records::name;
 use records::payload::Edit;
 use records::payload::EditKind;
 use records::payload::Payload;
-use state::find;
 use state::state::Job;
 use state::state::State;
 use words::bytes::Found;
@@ -138,28 +140,13 @@ fn payload_in_range(config: Config, payload: Payload) -> bool
     edits_in_range(config, payload)
 }
 
-fn payloads_in_range(state: State) -> bool
-    requires { ⌜ state .count ≤ slotCount ⌝ }
-    ensures { λ r. ⌜ r ≡ every (payloadInRange (state .config)) (loaded state) ⌝ }
-{
-    let config = state.config;
-    let mut i = 0;
-    while i < state.count {
-        if !payload_in_range(config, state.payloads[i]) {
-            return false;
-        }
-        i += 1;
-    }
-    true
-}
-
-fn stack_in_range(state: State) -> bool
-    requires { ⌜ (state .count ≤ slotCount) × (state .depth ≤ slotCount) ⌝ }
-    ensures { λ r. ⌜ r ≡ every (isTaken state) (stackOf state) ⌝ }
+fn stack_in_range(outline: Outline) -> bool
+    requires { ⌜ (outline .count ≤ slotCount) × (outline .depth ≤ slotCount) ⌝ }
+    ensures { λ r. ⌜ ((s : State) → Outlines outline s → r ≡ every (isTaken s) (stackOf s)) ⌝ }
 {
     let mut i = 0;
-    while i < state.depth {
-        let Found::At(_) = find::with_slot(state, state.stack[i]) else {
+    while i < outline.depth {
+        let Found::At(_) = outline::with_slot(outline, outline.stack[i]) else {
             return false;
         };
         i += 1;
@@ -176,37 +163,35 @@ fn is_job_action(action: u32) -> bool
     action <= Job::REPLACE
 }
 
-fn stack_fits(state: State) -> bool
-    ensures { λ r. ⌜ r ≡ stackFits state ⌝ }
+fn stack_fits(outline: Outline) -> bool
+    ensures { λ r. ⌜ ((s : State) → Outlines outline s → r ≡ stackFits s) ⌝ }
 {
-    let job = state.job;
-    if job.action == Job::REVERT {
-        return 0 < state.depth;
+    if outline.action == Job::REVERT {
+        return 0 < outline.depth;
     }
-    if job.action == Job::APPLY {
-        return state.depth < state.count;
+    if outline.action == Job::APPLY {
+        return outline.depth < outline.count;
     }
     true
 }
 
-fn job_in_range(state: State) -> bool
-    requires { ⌜ (state .count ≤ slotCount) × (state .depth ≤ slotCount) ⌝ }
-    ensures { λ r. ⌜ r ≡ jobInRange state ⌝ }
+fn job_in_range(outline: Outline) -> bool
+    requires { ⌜ (outline .count ≤ slotCount) × (outline .depth ≤ slotCount) ⌝ }
+    ensures { λ r. ⌜ ((s : State) → Outlines outline s → r ≡ jobInRange s) ⌝ }
 {
-    let job = state.job;
-    if !is_job_action(job.action) {
+    if !is_job_action(outline.action) {
         return false;
     }
-    let Found::At(_) = find::with_slot(state, job.slot) else {
+    let Found::At(_) = outline::with_slot(outline, outline.slot) else {
         return false;
     };
-    if !stack_fits(state) {
+    if !stack_fits(outline) {
         return false;
     }
-    if job.time < 1 {
+    if outline.time < 1 {
         return false;
     }
-    (job.steps as u64) < counts::step_count(state)
+    (outline.steps as u64) < counts::all_steps(outline)
 }
 
 // Whether every number of the state lies in its range.
@@ -220,18 +205,22 @@ pub fn in_range(state: State) -> bool
     if Config::SLOTS < state.count {
         return false;
     }
-    if !payloads_in_range(state) {
-        return false;
+    let mut i = 0;
+    while i < state.count {
+        if !payload_in_range(config, state.payloads[i]) {
+            return false;
+        }
+        i += 1;
     }
     if state.count < state.depth {
         return false;
     }
-    if !stack_in_range(state) {
+    let outline = outline::outline_of(state);
+    if !stack_in_range(outline) {
         return false;
     }
-    let job = state.job;
-    if job.action == 0 {
+    if outline.action == 0 {
         return true;
     }
-    job_in_range(state)
+    job_in_range(outline)
 }

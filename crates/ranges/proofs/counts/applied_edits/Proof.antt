@@ -1,4 +1,4 @@
--- `counts::applied_count` meets its contract: the total is of the stack from `i` on.
+-- `counts::applied_edits` meets its contract: the total is of the stack from `i` on.
 use Prim.Native.Nat.{ℕ, _+_, _*_, _-_, _^_, _≤_, _<_}
 use mathlib.Core.Path.{_≡_, sym, _∙_}
 use native.Mathlib.Omega.{arith}
@@ -10,24 +10,31 @@ use Rattle.state.specs.State.{stackOf}
 use Rattle.state.specs.Steps.{removalsIn}
 use Rattle.state.specs.declared.state.State.{State}
 use Rattle.state.proofs.StepLaws.{length-removals-none, length-removals-in, length-removals-reverse}
-use Rattle.state.proofs.Whole.{whole}
-use Rattle.ranges.proofs.counts.applied_count.Statement.{statement}
-use Rattle.ranges.proofs.counts.applied_count.Tie as tie
+use Rattle.ranges.specs.Outline.{Outlines}
+use Rattle.ranges.proofs.counts.applied_edits.Statement.{statement}
+use Rattle.ranges.proofs.counts.applied_edits.Tie as tie
 
 abbrev Inv-loop : tie.InvT-loop
-Inv-loop state total₀ i₀ total i =
-    (i ≤ state .depth) × (total ≡ length (removalsIn state (drop i (stackOf state)))) × (total + 2 ^ 32 * i ≤ 2 ^ 32 * state .depth)
+Inv-loop outline total₀ i₀ total i =
+    (i ≤ outline .depth)
+    × ((s : State) → Outlines outline s → total ≡ length (removalsIn s (drop i (stackOf s))))
+    × (total + 2 ^ 32 * i ≤ 2 ^ 32 * outline .depth)
 
 abbrev μ-loop : tie.MeasureT-loop
-μ-loop state total₀ i₀ total i = i
+μ-loop outline total₀ i₀ total i = i
 
-deep : (c : tie.Start Inv-loop μ-loop) → c .args .t1 .depth ≤ length (c .args .t1 .stack)
-deep c = omega (arith, whole (c .args .t1) _ (c .good .0) .stack)
+deep : (c : tie.Start Inv-loop μ-loop) (s : State) → Outlines (c .args .t1) s → s .depth ≤ length (s .stack)
+deep c s h = omega (arith, h .depth, h .stacked)
 
 loop-holds : tie.Need-loop-holds Inv-loop μ-loop
 loop-holds c =
-    let s = c .args .t1 in
-    (omega arith, rw (left-none (s .stack) (s .depth) (s .depth) (deep c) (omega arith), length-removals-none s), omega arith)
+    let o = c .args .t1 in (
+      omega arith,
+      λ s h.
+          let all : s .depth ≤ o .depth = omega (arith, h .depth) in
+          rw (left-none (s .stack) (s .depth) (o .depth) (deep c s h) all, length-removals-none s),
+      omega arith,
+    )
 
 -- a turn: the slot below those counted
 counted :
@@ -40,23 +47,23 @@ counted s i total fits some below e =
 
 loop-again : tie.Need-loop-again Inv-loop μ-loop
 loop-again c =
-    let l = c .before .before .before .before in
-    let s = l .before .args .t1 in (
+    let l = c .before .before .before in (
       omega arith,
-      rw (c .before .payload-in .ensures)
-          (counted s (l .loop .i) (l .loop .total) (deep (l .before)) (c .before .before .before .loop-test .taken) (l .loop .inv .0) (l .loop .inv .1)),
-      omega (arith, c .struct-known .given .1 .1 .1 .1 .1 .1 .1 .1 .0),
+      λ s h.
+          let below : l .loop .i ≤ s .depth = omega (arith, h .depth) in
+          rw (c .edits-in .ensures s h, h .stack)
+          (counted s (l .loop .i) (l .loop .total) (deep (l .before) s h) (c .before .before .loop-test .taken) below (l .loop .inv .1 s h)),
+      omega arith,
     )
 
 returns : tie.Need-returns Inv-loop μ-loop
 returns c =
     let l = c .before in
-    let s = l .before .args .t1 in
     let first : l .loop .i ≡ 0 = omega arith in
-    (l .loop .inv .1 ∙ rw first (sym (length-removals-reverse s (stackOf s))), omega arith)
+    (λ s h. l .loop .inv .1 s h ∙ rw first (sym (length-removals-reverse s (stackOf s))), omega arith)
 
-pub applied-count-spec : {M : Type 1} → statement M
-applied-count-spec =
+pub applied-edits-spec : {M : Type 1} → statement M
+applied-edits-spec =
     tie.close
     (tie.spec
     Inv-loop

@@ -1,0 +1,75 @@
+// The outline of a state: all that its stack and its job are checked by. A state goes by value and has about 5 KiB; its outline has 128 bytes.
+ghost use mathlib.Core.Path.{_≡_};
+ghost use Prim.Native.Nat.{ℕ, _≤_, _<_};
+ghost use Rattle.memory.specs.Memory.{slotCount};
+ghost use Rattle.state.specs.Find.{withSlot, payloadIn};
+ghost use Rattle.ranges.specs.Outline.{Outlines};
+use memory::config::Config;
+use state::state::State;
+use words::bytes::Found;
+
+// `slots` and `edits` are of the loaded payloads: where each is, and how many edits it has. From `action` on it is the job.
+pub(crate) struct Outline {
+    pub count: usize,
+    pub slots: [u32; Config::SLOTS],
+    pub edits: [u32; Config::SLOTS],
+    pub depth: usize,
+    pub stack: [u32; Config::SLOTS],
+    pub action: u32,
+    pub slot: u32,
+    pub time: u32,
+    pub steps: u32,
+}
+
+pub(crate) fn outline_of(state: State) -> Outline
+    requires { ⌜ state .count ≤ slotCount ⌝ }
+    ensures { λ r. ⌜ Outlines r state ⌝ }
+{
+    let mut slots = [0u32; Config::SLOTS];
+    let mut edits = [0u32; Config::SLOTS];
+    let mut i = 0;
+    while i < state.count {
+        let payload = state.payloads[i];
+        slots[i] = payload.slot;
+        edits[i] = payload.edit_count;
+        i += 1;
+    }
+    let job = state.job;
+    Outline {
+        count: state.count,
+        slots,
+        edits,
+        depth: state.depth,
+        stack: state.stack,
+        action: job.action,
+        slot: job.slot,
+        time: job.time,
+        steps: job.steps,
+    }
+}
+
+// The place in the list of the payload in this slot.
+pub(crate) fn with_slot(outline: Outline, slot: u32) -> Found
+    requires { ⌜ outline .count ≤ slotCount ⌝ }
+    ensures { λ r. ⌜ ((s : State) → Outlines outline s → r ≡ withSlot s slot) × ((i : ℕ) → r ≡ Found.At i → i < outline .count) ⌝ }
+{
+    let mut i = 0;
+    while i < outline.count {
+        if outline.slots[i] == slot {
+            return Found::At(i);
+        }
+        i += 1;
+    }
+    Found::Nothing
+}
+
+// How many edits the payload in this slot has; none where there is no payload.
+pub(crate) fn edits_in(outline: Outline, slot: u32) -> u32
+    requires { ⌜ outline .count ≤ slotCount ⌝ }
+    ensures { λ r. ⌜ ((s : State) → Outlines outline s → r ≡ payloadIn s slot .«edit_count») ⌝ }
+{
+    let Found::At(i) = with_slot(outline, slot) else {
+        return 0;
+    };
+    outline.edits[i]
+}
