@@ -29,9 +29,8 @@ pub(crate) fn outline_of(state: State) -> Outline
     let mut edits = [0u32; Config::SLOTS];
     let mut i = 0;
     while i < state.count {
-        let payload = state.payloads[i];
-        slots[i] = payload.slot;
-        edits[i] = payload.edit_count;
+        slots[i] = state.payloads[i].slot;
+        edits[i] = state.payloads[i].edit_count;
         i += 1;
     }
     let job = state.job;

@@ -15,8 +15,7 @@ pub fn with_slot(state: State, slot: u32) -> Found
 {
     let mut i = 0;
     while i < state.count {
-        let payload = state.payloads[i];
-        if payload.slot == slot {
+        if state.payloads[i].slot == slot {
             return Found::At(i);
         }
         i += 1;

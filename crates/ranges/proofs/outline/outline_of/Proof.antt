@@ -32,9 +32,9 @@ loop-holds c = (omega arith, fill-begin _ _ slotCount, fill-begin _ _ slotCount)
 
 loop-again : tie.Need-loop-again Inv-loop μ-loop
 loop-again c =
-    let start = c .before .before .before in
+    let start = c .before .before in
     let s = start .args .t1 in
-    let l = c .before .before .loop in
+    let l = c .before .loop in
     let below : l .i < slotCount = omega arith in
     let copied = copied-payload (all-whole start) (l .i) below in (
       omega arith,
@@ -69,6 +69,8 @@ outline-of-spec =
     Inv-loop
     μ-loop
     loop-holds
+    (λ c. omega arith)
+    (λ c. omega arith)
     (λ c. omega arith)
     (λ c. omega arith)
     (λ c. omega arith)

@@ -28,13 +28,13 @@ many c = omega (arith, whole (c .args .t1) _ (c .good .0) .payloads)
 
 returns : tie.Need-returns Inv-loop μ-loop
 returns c =
-    let l = c .before .before .before .before in
-    sym (l .loop .inv .1 ∙ where-turn _ _ _ _ (many (l .before)) noCopy (c .before .before .before .loop-test .taken) ∙ rw (eq-eqb _ _ (c .if1 .taken)))
+    let l = c .before .before in
+    sym (l .loop .inv .1 ∙ where-turn _ _ _ _ (many (l .before)) noCopy (c .before .loop-test .taken) ∙ rw (eq-eqb _ _ (c .if1 .taken)))
 
 loop-again : tie.Need-loop-again Inv-loop μ-loop
 loop-again c =
-    let l = c .before .before .before .before in
-    (omega arith, l .loop .inv .1 ∙ where-turn _ _ _ _ (many (l .before)) noCopy (c .before .before .before .loop-test .taken) ∙ rw (ne-eqb _ _ (c .if1 .left)))
+    let l = c .before .before in
+    (omega arith, l .loop .inv .1 ∙ where-turn _ _ _ _ (many (l .before)) noCopy (c .before .loop-test .taken) ∙ rw (ne-eqb _ _ (c .if1 .left)))
 
 returns-2 : tie.Need-returns-2 Inv-loop μ-loop
 returns-2 c = sym (c .before .loop .inv .1 ∙ where-end _ _ _ _ (many (c .before .before)) (c .loop-test .left))
