@@ -42,8 +42,7 @@ pub fn build(image: &mut [u8], file: &[u8], list: &[u8], host: Host, reading: Re
     requires { ⌜ Ready (hostMachine host) (now file) reading × (host .«text_length» ≤ textMax) × (now image ≡ noBytes) ⌝ }
     ensures { λ r. ⌜ builtSlot r (now (image .exit)) ≡ builtOf (setting host (now (list .entry))) (now (file .entry)) ⌝ }
 {
-    let table = reading.sections;
-    let placement = placement::place(image, file, table, reading.count);
+    let placement = placement::place(image, file, reading.sections, reading.count);
     let placed_verdict = placement.verdict;
     if let Verdict::Refuse(r) = placed_verdict {
         return nothing_built(image, r);
@@ -54,7 +53,7 @@ pub fn build(image: &mut [u8], file: &[u8], list: &[u8], host: Host, reading: Re
         return nothing_built(image, r);
     }
     let records = reading.records;
-    let entry = table[records];
+    let entry = reading.sections[records];
     let header = entry.header;
     let offsets = layout.offsets;
     let start = offsets[records] as usize;

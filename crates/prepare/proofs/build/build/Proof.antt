@@ -7,6 +7,7 @@ use lib.ListN.{length}
 use Rattle.records.specs.Limits.{placedMax}
 use Rattle.records.specs.declared.refusal.Verdict.the-variants.{Pass}
 use Rattle.object.specs.Sections.{noEntry}
+use Rattle.payload.specs.declared.read.Reading.{Reading}
 use Rattle.payload.proofs.ReadingLaws.{read-passes}
 use Rattle.placement.specs.Placement.{PlacedSlot, placedSlot}
 use Rattle.placement.proofs.PlacementLaws.{length-none}
@@ -35,6 +36,10 @@ aim s = setting (s .args .host) (s .args .list .now)
 
 abbrev file-of : tie.Start → List ℕ
 file-of s = s .args .file .now
+
+-- the parameter `reading`
+abbrev reading : tie.Start → Reading
+reading s = s .args .t5
 
 place-requires : tie.Need-place-requires
 place-requires c κs =
@@ -68,7 +73,7 @@ module _ (c : tie.After-enum-told) where
   abbrev placing : tie.After-slice-known2
   placing = c .before .before
 
-  placed : InSlot (aim (begun placing)) (file-of (begun placing)) (begun placing .args .reading) (slot placing)
+  placed : InSlot (aim (begun placing)) (file-of (begun placing)) (reading (begun placing)) (slot placing)
   placed = in-slot (begun placing .pre .0) (placing .before .before .place .ensures) (c .enum-told .given .1)
 
 relocate-requires : tie.Need-relocate-requires
@@ -110,8 +115,8 @@ module _ (c : tie.After-enum-told2) where
 mul-entry : tie.Need-mul-entry
 mul-entry c = omega (arith, index-below (placed (earlier (linking c))))
 
-array-copy-out-entry : tie.Need-array-copy-out-entry
-array-copy-out-entry c = index-below (placed (earlier (linking c)))
+element-copy-out-entry : tie.Need-element-copy-out-entry
+element-copy-out-entry c = index-below (placed (earlier (linking c)))
 
 mul-start : tie.Need-mul-start
 mul-start c = omega (arith, index-below (placed (earlier (linking (c .before .before .before)))))
@@ -178,7 +183,7 @@ build-spec =
     returns-2
     (λ c. search needs)
     mul-entry
-    array-copy-out-entry
+    element-copy-out-entry
     mul-start
     array-read-start
     slice-reshare-prefix-read-functions
