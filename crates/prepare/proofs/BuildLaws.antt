@@ -197,16 +197,18 @@ module _ {t : Setting} {file : List ℕ} {g : Reading} {p : PlacedSlot} (d : InS
     count-is = rw (d .ready .read)
 
     -- all records lie in the placed bytes, and are at most 16
-    pub to-patch : (begin + recordSize * count ≤ length (take (p .answer .placed) image)) × (count ≤ recordsMax)
-    to-patch =
+    pub to-patch : {k : ℕ} → k ≡ count → (begin + recordSize * k ≤ length (take (p .answer .placed) image)) × (k ≤ recordsMax)
+    to-patch counted =
         let found = index-found (sections file) (sectionCount file) Records (passing .counts .records) in
         let inside = placed-inside (sections file) (sectionCount file) (recordsIndex file) (found .0) (records-placed _ (found .1)) in
-        rw (← part-length, begin-is, count-is, d .placement) (omega (arith, inside), omega (arith, passing .records-most))
+        rw (counted, ← part-length, begin-is, count-is, d .placement) (omega (arith, inside), omega (arith, passing .records-most))
 
     -- the records have been answered with f
-    module _ {f : Functions} (answer : f ≡ functionsOf (patching (t .host) (take (p .answer .placed) image) (t .list)) begin count) where
+    module _
+        {f : Functions} {k : ℕ} (counted : k ≡ count)
+        (answer : f ≡ functionsOf (patching (t .host) (take (p .answer .placed) image) (t .list)) begin k) where
       functions-are : f ≡ functionsOf (patchingOf t file) (recordsStart file) (recordCount file)
-      functions-are = answer ∙ rw (begin-is, count-is, d .placement, made)
+      functions-are = answer ∙ rw (counted, begin-is, count-is, d .placement, made)
 
       pub patch-told : {v : Verdict} → f .verdict ≡ v → patchRules t file ≡ v
       unfolding functionsOf

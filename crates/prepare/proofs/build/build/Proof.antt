@@ -1,13 +1,11 @@
 -- `build::build` meets its contract: each stage answers as its definition says, and the first that refuses ends it.
-use Prim.Native.Nat.{ℕ}
+use Prim.Native.Nat.{ℕ, _<_}
 use mathlib.Core.Path.{_≡_, refl, sym, ap, _∙_}
 use mathlib.Core.List.{List}
 use native.Mathlib.Omega.{arith}
 use lib.ListN.{length}
-use Rattle.records.specs.Limits.{placedMax}
+use Rattle.records.specs.Limits.{sectionsMax, placedMax}
 use Rattle.records.specs.declared.refusal.Verdict.the-variants.{Pass}
-use Rattle.object.specs.Sections.{noEntry}
-use Rattle.payload.specs.declared.read.Reading.{Reading}
 use Rattle.payload.proofs.ReadingLaws.{read-passes}
 use Rattle.placement.specs.Placement.{PlacedSlot, placedSlot}
 use Rattle.placement.proofs.PlacementLaws.{length-none}
@@ -36,10 +34,6 @@ aim s = setting (s .args .host) (s .args .list .now)
 
 abbrev file-of : tie.Start → List ℕ
 file-of s = s .args .file .now
-
--- the parameter `reading`
-abbrev reading : tie.Start → Reading
-reading s = s .args .t5
 
 place-requires : tie.Need-place-requires
 place-requires c κs =
@@ -73,7 +67,7 @@ module _ (c : tie.After-enum-told) where
   abbrev placing : tie.After-slice-known2
   placing = c .before .before
 
-  placed : InSlot (aim (begun placing)) (file-of (begun placing)) (reading (begun placing)) (slot placing)
+  placed : InSlot (aim (begun placing)) (file-of (begun placing)) (begun placing .args .reading) (slot placing)
   placed = in-slot (begun placing .pre .0) (placing .before .before .place .ensures) (c .enum-told .given .1)
 
 relocate-requires : tie.Need-relocate-requires
@@ -112,59 +106,57 @@ module _ (c : tie.After-enum-told2) where
   passed : relocatedOf (aim (start linking)) (file-of (start linking)) .verdict ≡ Pass
   passed = relocate-told (placed (earlier linking)) (linking .before .before .relocate .ensures) (c .enum-told2 .given .1)
 
-mul-entry : tie.Need-mul-entry
-mul-entry c = omega (arith, index-below (placed (earlier (linking c))))
-
-element-copy-out-entry : tie.Need-element-copy-out-entry
-element-copy-out-entry c = index-below (placed (earlier (linking c)))
-
-mul-start : tie.Need-mul-start
-mul-start c = omega (arith, index-below (placed (earlier (linking (c .before .before .before)))))
-
-array-read-start : tie.Need-array-read-start
-array-read-start c = index-below (placed (earlier (linking (c .before .before .before))))
+-- the records' index is one of the table
+below : (c : tie.After-offsets) → start (linking (c .before)) .args .reading .records < sectionsMax
+below c = index-below (placed (earlier (linking (c .before))))
 
 slice-reshare-prefix-read-functions : tie.Need-slice-reshare-prefix-read-functions
 slice-reshare-prefix-read-functions c =
-    let linked = linking (c .before .before .before) in
+    let linked = linking (c .before .before) in
     part-fits (placed (earlier linked)) (made linked)
 
 slice-aggregate-read-functions : tie.Need-slice-aggregate-read-functions
 slice-aggregate-read-functions c =
-    let linked = linking (c .before .before .before .before) in
+    let linked = linking (c .before .before .before) in
     part-length (placed (earlier linked)) (made linked)
 
 read-functions-requires : tie.Need-read-functions-requires
-unfolding noEntry
 read-functions-requires c κs =
-    let linked = linking (c .before .before .before .before) in
-    let asked = to-patch (placed (earlier linked)) (made linked) in
+    let linked = linking (c .before .before .before) in
+    let asked = to-patch (placed (earlier linked)) (made linked) (c .before .record-count .ensures) in
     (asked .0, asked .1, start linked .pre .1)
 
 nothing-built-requires-3 : tie.Need-nothing-built-requires-3
-nothing-built-requires-3 c κs = still-whole (linking (c .before .before .before .before .before .before .before .before .before))
+nothing-built-requires-3 c κs = still-whole (linking (c .before .before .before .before .before .before .before .before))
+
+same-length-3 : tie.Need-same-length-3
+same-length-3 c =
+    let linked = linking (c .before .before .before .before .before .before .before .before .before .before .before) in
+    c .before .before .nothing-built3 .kept .0
+    ∙ linked .before .before .relocate .kept .0
+    ∙ placing (earlier linked) .before .before .place .kept .0
 
 returns-3 : tie.Need-returns-3
-unfolding noEntry
 returns-3 c =
     let known = c .before .before .before .before in
     let finding = known .before .before .before in
-    let passing = finding .before .before .before .before .before in
+    let counting = finding .before .before in
+    let passing = counting .before .before in
     let linked = linking passing in
     let p = placed (earlier linked) in
-    let told = patch-told p (made linked) (finding .read-functions .ensures) (known .before .found-verdict .given .1) in
+    let told = patch-told p (made linked) (counting .record-count .ensures) (finding .read-functions .ensures) (known .before .found-verdict .given .1) in
     c .before .before .nothing-built3 .ensures ∙ sym (built-by _ _ (p .fits) (passed passing) told)
 
 returns-4 : tie.Need-returns-4
-unfolding noEntry
 returns-4 c =
     let finding = c .before .before .before in
-    let passing = finding .before .before .before .before .before in
+    let counting = finding .before .before in
+    let passing = counting .before .before in
     let linked = linking passing in
     let p = placed (earlier linked) in
     let told = c .before .enum-told3 .given .1 in
-    all-built p (made linked) (finding .read-functions .ensures) told
-    ∙ sym (built-by _ _ (p .fits) (passed passing) (patch-told p (made linked) (finding .read-functions .ensures) told))
+    all-built p (made linked) (counting .record-count .ensures) (finding .read-functions .ensures) told
+    ∙ sym (built-by _ _ (p .fits) (passed passing) (patch-told p (made linked) (counting .record-count .ensures) (finding .read-functions .ensures) told))
 
 pub build-spec : {M : Type 1} → statement M
 build-spec =
@@ -182,16 +174,15 @@ build-spec =
     (λ c. omega arith)
     returns-2
     (λ c. search needs)
-    mul-entry
-    element-copy-out-entry
-    mul-start
-    array-read-start
+    (λ c. omega (arith, below c))
+    below
+    (λ c κs. below c)
     slice-reshare-prefix-read-functions
     slice-aggregate-read-functions
     read-functions-requires
     (λ c. search needs)
     nothing-built-requires-3
-    (λ c. omega arith)
+    same-length-3
     returns-3
     (λ c. search needs)
     (λ c. omega arith)
