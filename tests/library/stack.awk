@@ -38,7 +38,7 @@ function unknown(what) {
         else if (code ~ /^sub/) taken[name] += hex(digits)
         else if (added[name] < hex(digits)) added[name] = hex(digits)
     }
-    else if (bare ~ /%(rsp|esp|sp|spl)/ && code !~ /^(cmp +|mov +%rsp,)/ || code ~ /^(leave|enter|push[^ ]|pop[^ ])/) unknown(code)
+    else if (bare ~ /%(rsp|esp|sp|spl)/ && code !~ /^(cmp +|mov +%rsp,|add +%rsp,%r([abcd]x|[sd]i|bp|[0-9]+)$)/ || code ~ /^(leave|enter|push[^ ]|pop[^ ])/) unknown(code)
 
     if (code ~ /^(notrack |bnd )?call/ && to == "" || code ~ /call +\*/) unknown(code)
     if (code ~ /^(notrack |bnd )?(call|j)/ && to != "") {

@@ -1,10 +1,10 @@
 // The symbols of a payload, kept in cells while it is relocated: each symbol has a state and a value.
 ghost use mathlib.Core.Path.{_≡_};
-ghost use Prim.Native.Nat.{_≤_};
+ghost use Prim.Native.Nat.{_*_, _≤_};
 ghost use lib.ListN.{length};
 ghost use Rattle.records.specs.Limits.{fileMax};
 ghost use Rattle.linking.specs.Linking.{Linking};
-ghost use Rattle.linking.specs.Kept.{Holds, Kept, Stands, Sought};
+ghost use Rattle.linking.specs.Kept.{symbolsMax, Holds, Kept, Stands, Sought};
 ghost use Rattle.linking.specs.Symbols.{definedValue, valueBy, symbolValue};
 use super::values::SymbolValue;
 use super::values::{self};
@@ -108,11 +108,10 @@ fn cell_at(slot: u64, layout: Layout, table: &[u8], number: usize) -> Cell
 }
 
 // The cells of all symbols of a symbol table, none of them looked up.
-pub fn read_symbols(slot: u64, layout: Layout, table: &[u8]) -> [u64; Cell::COUNT]
-    requires { ⌜ length (now table) ≤ fileMax ⌝ }
-    ensures { λ r. ⌜ ((l : Linking) → Stands l slot layout → l .symbols ≡ now (table .entry) → Kept l r) ⌝ }
+pub fn read_symbols(cells: &mut [u64], slot: u64, layout: Layout, table: &[u8])
+    requires { ⌜ (length (now cells) ≡ 2 * symbolsMax) × (length (now table) ≤ fileMax) ⌝ }
+    ensures { λ r. ⌜ ((l : Linking) → Stands l slot layout → l .symbols ≡ now (table .entry) → Kept l (now (cells .exit))) ⌝ }
 {
-    let mut cells = [0u64; Cell::COUNT];
     let mut i = 0;
     while i < Cell::SYMBOLS_MAX {
         let one = cell_at(slot, layout, table, i);
@@ -120,7 +119,6 @@ pub fn read_symbols(slot: u64, layout: Layout, table: &[u8]) -> [u64; Cell::COUN
         cells[2 * i + 1] = one.value;
         i += 1;
     }
-    cells
 }
 
 // The value of the symbol with this number. A name is looked up once: the address that is found is kept. No file has room for

@@ -1,6 +1,6 @@
 -- Placement: the next multiple, where the placed sections end, how long the slot's bytes are, and what is kept for the symbols.
 use Prim.Native.Nat.{ℕ, zero, suc, _+_, _-_, _*_, _/_, _%_, _≤_, _<_}
-use mathlib.Core.Path.{_≡_, refl, _∙_}
+use mathlib.Core.Path.{_≡_, refl, sym, _∙_}
 use mathlib.Core.Bool.{Bool, true, false, cond, not}
 use mathlib.Core.List.{List}
 use mathlib.Core.Logic.{⊎-elim}
@@ -13,7 +13,7 @@ use lib.Seq.{getD-append-add}
 use Rattle.words.specs.Scan.{each, filled}
 use Rattle.words.specs.Splice.{part, splice}
 use Rattle.words.proofs.Scan.{length-each, length-filled, getD-filled}
-use Rattle.words.proofs.Splice.{length-splice}
+use Rattle.words.proofs.Splice.{length-splice, splice-whole}
 use Rattle.words.proofs.Tests.{both}
 use Rattle.records.specs.Limits.{sectionsMax, placedMax}
 use Rattle.records.specs.Verdict.{must}
@@ -32,6 +32,7 @@ use Rattle.placement.specs.Placement.{
   offsetOf,
   placementRules,
   hasContents,
+  noBytes,
   imageBefore,
   boundFor,
   layoutOf,
@@ -155,6 +156,20 @@ module _ (ss : List SectionEntry) where
 
 -- ---- the slot's bytes
 
+-- `noBytes` unfolds in these alone: elsewhere its zeros would be written out
+pub no-bytes : replicate placedMax 0 ≡ noBytes
+unfolding noBytes
+no-bytes = refl
+
+pub length-none : length noBytes ≡ placedMax
+unfolding noBytes
+length-none = length-replicate {A = ℕ} placedMax 0
+
+-- a slot that is filled with zeros holds no section
+pub cleared : (image : List ℕ) → length image ≡ placedMax → splice image 0 (replicate placedMax 0) ≡ noBytes
+unfolding noBytes
+cleared image h = splice-whole image (replicate placedMax 0) (length-replicate {A = ℕ} placedMax 0 ∙ sym h)
+
 module _ (file : List ℕ) where
   -- the bytes with the contents of one section laid over them, if it has any
   abbrev pub laid : List ℕ → ℕ → SectionEntry → List ℕ
@@ -173,8 +188,7 @@ module _ (file : List ℕ) where
       by-cases false e = refl
 
   module _ (ss : List SectionEntry) where
-    -- `imageBefore` unfolds in these two alone: elsewhere its zeros would be written out
-    pub image-begin : replicate placedMax 0 ≡ imageBefore file ss 0
+    pub image-begin : noBytes ≡ imageBefore file ss 0
     unfolding imageBefore
     image-begin = refl
 
@@ -185,7 +199,7 @@ module _ (file : List ℕ) where
     -- so the slot's bytes are 8,192, as long as what is placed fits
     pub length-before : (n : ℕ) → endBefore ss n ≤ placedMax → length (imageBefore file ss n) ≡ placedMax
     unfolding endBefore offsetOf
-    length-before zero h = rw (← image-begin) (length-replicate {A = ℕ} placedMax 0)
+    length-before zero h = rw (← image-begin) length-none
     length-before (suc n) h =
         let so-far = length-before n (omega (arith, end-low (endBefore ss n) (sectionIn ss n))) in
         rw image-next (length-laid _ (endBefore ss n) (sectionIn ss n) (omega arith) ∙ so-far)
@@ -236,5 +250,5 @@ module _ (ss : List SectionEntry) (n : ℕ) where
 -- ---- the answer
 
 -- both answers hold the verdict that they are given for
-pub placement-told : (file : List ℕ) (ss : List SectionEntry) (n : ℕ) → Told (λ p. p .verdict) refusedPlacement (acceptedPlacement file ss n)
+pub placement-told : (file : List ℕ) (ss : List SectionEntry) (n : ℕ) → Told (λ p. p .answer .verdict) refusedPlacement (acceptedPlacement file ss n)
 placement-told file ss n = record { refusing = λ r. refl; accepting = refl }

@@ -18,7 +18,6 @@ use Rattle.records.specs.declared.refusal.Verdict.{Verdict}
 use Rattle.records.specs.declared.refusal.Verdict.the-variants.{Pass, Refuse}
 use Rattle.object.specs.Sections.{sectionIn}
 use Rattle.object.specs.declared.sections.SectionEntry.{SectionEntry}
-use Rattle.placement.specs.declared.Placement.{Placement}
 use Rattle.placement.specs.declared.Step.{Step}
 use Rattle.placement.specs.declared.Step.the-variants.{At, Over}
 use Rattle.placement.specs.Placement.{
@@ -29,9 +28,12 @@ use Rattle.placement.specs.Placement.{
   one-placed,
   placementRules,
   stepOf,
+  noBytes,
   imageBefore,
   boundFor,
   layoutOf,
+  PlacedSlot,
+  placedSlot,
   refusedPlacement,
   refusedAt,
   acceptedPlacement,
@@ -82,17 +84,17 @@ pub record Placing (file : List ℕ) (ss : List SectionEntry) (count : ℕ) (off
 
 -- before the first section
 pub placing-begin :
-    (file : List ℕ) (ss : List SectionEntry) (count : ℕ) →
-    Placing file ss count (replicate sectionsMax 0) (replicate sectionsMax 0) (replicate placedMax 0) 0 0
+    (file : List ℕ) (ss : List SectionEntry) (count : ℕ) {image : List ℕ} → image ≡ noBytes →
+    Placing file ss count (replicate sectionsMax 0) (replicate sectionsMax 0) image 0 0
 unfolding placementRules endBefore layoutOf
-placing-begin file ss count =
+placing-begin file ss count empty =
     record {
       within = omega arith;
       placed-is = refl;
       placed-fits = omega arith;
       offsets-are = fill-begin _ _ _;
       bounds-are = fill-begin _ _ _;
-      image-is = image-begin file ss;
+      image-is = empty ∙ image-begin file ss;
       rest = begin _ _ _;
     }
 
@@ -136,8 +138,8 @@ module _
   -- where all fit, they are placed
   pub placing-ends :
       count ≤ i →
-      _≡_ {A = Placement}
-      record { verdict = Pass; layout = record { offsets = offsets; bounds = bounds }; placed = placed; image = image }
+      _≡_ {A = PlacedSlot}
+      (placedSlot (record { verdict = Pass; layout = record { offsets = offsets; bounds = bounds }; placed = placed }) image)
       (placementOf file ss count)
   unfolding placementOf
   placing-ends h =

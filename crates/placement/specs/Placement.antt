@@ -62,9 +62,13 @@ stepOf end s = cond (leb (sectionEnd end s) placedMax) (At (sectionStart end s) 
 unfoldable pub hasContents : SectionEntry → Bool
 hasContents s = isPlaced s && not (hasType 8 (s .header))
 
+-- the slot's bytes with no section in it
+unfoldable pub noBytes : List ℕ
+noBytes = replicate placedMax 0
+
 -- the slot's bytes with the sections before section i in it
 unfoldable pub imageBefore : List ℕ → List SectionEntry → ℕ → List ℕ
-imageBefore file ss zero = replicate placedMax 0
+imageBefore file ss zero = noBytes
 imageBefore file ss (suc i) =
     cond (hasContents (sectionIn ss i))
     (splice (imageBefore file ss i) (offsetOf ss i) (contentsOf file (sectionIn ss i .header)))
@@ -82,19 +86,27 @@ layoutOf ss n = record {
   bounds = filled (λ i. boundFor (sectionIn ss i)) 0 sectionsMax n;
 }
 
--- ---- the answer
+-- ---- the answer, and the slot's bytes after it
+
+pub record PlacedSlot : Type 0 where
+  pub answer : Placement
+  pub image : List ℕ
+
+abbrev pub placedSlot : Placement → List ℕ → PlacedSlot
+placedSlot answer image = record { answer = answer; image = image }
 
 abbrev pub noLayout : Layout
 noLayout = record { offsets = replicate sectionsMax 0; bounds = replicate sectionsMax 0 }
 
-abbrev pub refusedPlacement : Refusal → Placement
-refusedPlacement r = record { verdict = Refuse r; layout = noLayout; placed = 0; image = replicate placedMax 0 }
+abbrev pub refusedPlacement : Refusal → PlacedSlot
+refusedPlacement r = placedSlot (record { verdict = Refuse r; layout = noLayout; placed = 0 }) noBytes
 
-unfoldable pub refusedAt : ℕ → Placement
+unfoldable pub refusedAt : ℕ → PlacedSlot
 refusedAt i = refusedPlacement (refusal (reasonFor 12) (Section i))
 
-abbrev pub acceptedPlacement : List ℕ → List SectionEntry → ℕ → Placement
-acceptedPlacement file ss n = record { verdict = Pass; layout = layoutOf ss n; placed = endBefore ss n; image = imageBefore file ss n }
+abbrev pub acceptedPlacement : List ℕ → List SectionEntry → ℕ → PlacedSlot
+acceptedPlacement file ss n =
+    placedSlot (record { verdict = Pass; layout = layoutOf ss n; placed = endBefore ss n }) (imageBefore file ss n)
 
-unfoldable pub placementOf : List ℕ → List SectionEntry → ℕ → Placement
+unfoldable pub placementOf : List ℕ → List SectionEntry → ℕ → PlacedSlot
 placementOf file ss n = decide refusedPlacement (acceptedPlacement file ss n) (placementRules ss n)

@@ -1,8 +1,19 @@
 // Placement: where each placed section stands in the slot, and the slot's bytes before relocation.
 ghost use mathlib.Core.Path.{_≡_};
 ghost use Prim.Native.Nat.{_+_, _≤_};
+ghost use lib.ListN.{length};
 ghost use Rattle.records.specs.Limits.{sectionsMax, placedMax};
-ghost use Rattle.placement.specs.Placement.{isPlaced, nextMultiple, stepOf, boundFor, hasContents, refusedAt, placementOf};
+ghost use Rattle.placement.specs.Placement.{
+  isPlaced,
+  nextMultiple,
+  stepOf,
+  boundFor,
+  hasContents,
+  noBytes,
+  placedSlot,
+  refusedAt,
+  placementOf,
+};
 use kinds::Kind;
 use object::sections::SectionEntry;
 use object::sections::{self};
@@ -26,8 +37,6 @@ pub struct Placement {
     pub layout: Layout,
     // How many bytes are placed.
     pub placed: u64,
-    // The slot's bytes before relocation.
-    pub image: [u8; Payload::PLACED_MAX],
 }
 
 // Where a section starts, and where what is placed ends after it; or that it does not fit.
@@ -109,9 +118,12 @@ fn bound_for(s: SectionEntry) -> u64
     h.sh_size + 1
 }
 
-fn refuse_at(i: u16) -> Placement
-    ensures { λ r. ⌜ r ≡ refusedAt i ⌝ }
+// Section i passes the slot's end; the slot's bytes are cleared.
+fn refuse_at(image: &mut [u8], i: u16) -> Placement
+    requires { ⌜ length (now image) ≡ placedMax ⌝ }
+    ensures { λ r. ⌜ placedSlot r (now (image .exit)) ≡ refusedAt i ⌝ }
 {
+    words::bytes::fill(image, 0, Payload::PLACED_MAX, 0);
     let layout = Layout {
         offsets: [0u64; Payload::SECTIONS_MAX],
         bounds: [0u64; Payload::SECTIONS_MAX],
@@ -123,28 +135,31 @@ fn refuse_at(i: u16) -> Placement
         }),
         layout,
         placed: 0,
-        image: [0u8; Payload::PLACED_MAX],
     }
 }
 
-// The placed sections in index order, each at the next multiple of its alignment.
-pub fn place(file: &[u8], table: [SectionEntry; Payload::SECTIONS_MAX], count: usize) -> Placement
-    requires { ⌜ count ≤ sectionsMax ⌝ }
-    ensures { λ r. ⌜ r ≡ placementOf (now (file .entry)) table count ⌝ }
+// The placed sections in index order, each at the next multiple of its alignment. `image` is the slot's bytes, all zero.
+pub fn place(
+    image: &mut [u8],
+    file: &[u8],
+    table: [SectionEntry; Payload::SECTIONS_MAX],
+    count: usize,
+) -> Placement
+    requires { ⌜ (count ≤ sectionsMax) × (now image ≡ noBytes) ⌝ }
+    ensures { λ r. ⌜ placedSlot r (now (image .exit)) ≡ placementOf (now (file .entry)) table count ⌝ }
 {
     let mut offsets = [0u64; Payload::SECTIONS_MAX];
     let mut bounds = [0u64; Payload::SECTIONS_MAX];
-    let mut image = [0u8; Payload::PLACED_MAX];
     let mut end = 0;
     let mut i = 0;
     while i < count {
         let one = table[i];
         let Step::At(start, next) = place_one(end, one) else {
-            return refuse_at(i as u16);
+            return refuse_at(image, i as u16);
         };
         if has_contents(one) {
             let h = one.header;
-            words::bytes::copy(&mut image, start as usize, sections::contents_of(file, h));
+            words::bytes::copy(image, start as usize, sections::contents_of(file, h));
         }
         offsets[i] = start;
         bounds[i] = bound_for(one);
@@ -156,6 +171,5 @@ pub fn place(file: &[u8], table: [SectionEntry; Payload::SECTIONS_MAX], count: u
         verdict: Verdict::Pass,
         layout,
         placed: end,
-        image,
     }
 }

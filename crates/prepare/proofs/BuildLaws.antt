@@ -23,8 +23,7 @@ use Rattle.payload.specs.RelocationHeaders.{isTarget}
 use Rattle.payload.specs.declared.read.Reading.{Reading}
 use Rattle.payload.proofs.CountLaws.{index-found}
 use Rattle.payload.proofs.ReadingLaws.{ReadPasses, read-passes}
-use Rattle.placement.specs.Placement.{isPlaced, layoutOf, placementRules, acceptedPlacement, placementOf}
-use Rattle.placement.specs.declared.Placement.{Placement}
+use Rattle.placement.specs.Placement.{isPlaced, layoutOf, placementRules, PlacedSlot, acceptedPlacement, placementOf}
 use Rattle.placement.proofs.PlacementLaws.{placed-inside, end-inside, section-inside, length-image, offset-kept, placement-told}
 use Rattle.relocation.specs.Relocating.{Relocated, relocated, Linkable, areaFits, isRelocating, areaOf, linkingOf, relocateAll}
 use Rattle.relocation.proofs.RelocateLaws.{length-relocated}
@@ -33,8 +32,7 @@ use Rattle.functions.specs.Patching.{patching}
 use Rattle.functions.specs.declared.read.Functions.{Functions}
 use Rattle.functions.proofs.FunctionLaws.{functions-told}
 use Rattle.acceptance.specs.Stages.{Setting, machineAt, relocatedOf, recordsIndex, recordsStart, recordCount, patchingOf, buildRules}
-use Rattle.prepare.specs.Prepare.{Ready, refusedBuilt, acceptedBuilt, builtOf}
-use Rattle.prepare.specs.declared.build.Built.{Built}
+use Rattle.prepare.specs.Prepare.{Ready, BuiltSlot, builtSlot, refusedBuilt, acceptedBuilt, builtOf}
 
 -- ---- sections that are placed
 
@@ -83,43 +81,43 @@ module _ (t : Setting) (file : List ℕ) where
   built-by p l f = rw (p, l, f)
 
   -- what is built holds the verdict that decides it
-  pub built-told : Told (λ b. b .verdict) refusedBuilt (acceptedBuilt t file)
+  pub built-told : Told (λ b. b .answer .verdict) refusedBuilt (acceptedBuilt t file)
   built-told = record { refusing = λ r. refl; accepting = refl }
 
 -- ---- placement has answered p for the reading g
 
 -- what it answers where it passes
-abbrev pub placementFor : List ℕ → Placement
+abbrev pub placementFor : List ℕ → PlacedSlot
 placementFor file = acceptedPlacement file (sections file) (sectionCount file)
 
 module _
-    {m : Machine} {file : List ℕ} {g : Reading} {p : Placement} (ready : Ready m file g)
+    {m : Machine} {file : List ℕ} {g : Reading} {p : PlacedSlot} (ready : Ready m file g)
     (answer : p ≡ placementOf file (g .sections) (g .count)) where
   -- it is the answer for the file's sections
   placement-is : p ≡ placementOf file (sections file) (sectionCount file)
   placement-is = answer ∙ rw (ready .read)
 
   -- so it tells what the rules say
-  pub place-told : {v : Verdict} → p .verdict ≡ v → placeRules file ≡ v
+  pub place-told : {v : Verdict} → p .answer .verdict ≡ v → placeRules file ≡ v
   unfolding placementOf
   place-told h = rules-told _ _ _ (placement-told file _ _) _ _ placement-is h
 
-  placement-all : p .verdict ≡ Pass → p ≡ placementFor file
+  placement-all : p .answer .verdict ≡ Pass → p ≡ placementFor file
   unfolding placementOf
   placement-all h = answer-told _ _ _ (placement-told file _ _) (placeRules file) Pass placement-is h
 
 -- it has passed
-pub record InSlot (t : Setting) (file : List ℕ) (g : Reading) (p : Placement) : Type 0 where
+pub record InSlot (t : Setting) (file : List ℕ) (g : Reading) (p : PlacedSlot) : Type 0 where
   pub ready : Ready (machineAt t) file g
   pub fits : placeRules file ≡ Pass
   pub placement : p ≡ placementFor file
 
 pub in-slot :
-    {t : Setting} {file : List ℕ} {g : Reading} {p : Placement} → Ready (machineAt t) file g → p ≡ placementOf file (g .sections) (g .count) →
-    p .verdict ≡ Pass → InSlot t file g p
+    {t : Setting} {file : List ℕ} {g : Reading} {p : PlacedSlot} → Ready (machineAt t) file g → p ≡ placementOf file (g .sections) (g .count) →
+    p .answer .verdict ≡ Pass → InSlot t file g p
 in-slot ready answer h = record { ready = ready; fits = place-told ready answer h; placement = placement-all ready answer h }
 
-module _ {t : Setting} {file : List ℕ} {g : Reading} {p : Placement} (d : InSlot t file g p) where
+module _ {t : Setting} {file : List ℕ} {g : Reading} {p : PlacedSlot} (d : InSlot t file g p) where
   passing : ReadPasses file
   passing = read-passes file (machineAt t) (d .ready .passes)
 
@@ -135,7 +133,7 @@ module _ {t : Setting} {file : List ℕ} {g : Reading} {p : Placement} (d : InSl
       section-inside (sections file) (sectionCount file) _ (d .fits) (target .0) (target-placed _ (target .1) (not-true _ (tests .1)))
 
   -- what is asked of the bytes before relocation, of the reading and of the layout
-  pub to-relocate : Linkable (length (p .image)) file g × (p .layout ≡ layoutOf (g .sections) (g .count))
+  pub to-relocate : Linkable (length (p .image)) file g × (p .answer .layout ≡ layoutOf (g .sections) (g .count))
   to-relocate =
       rw (d .ready .read, d .placement) (
         record {
@@ -179,15 +177,15 @@ module _ {t : Setting} {file : List ℕ} {g : Reading} {p : Placement} (d : InSl
 
   module _ {image : List ℕ} (made : image ≡ relocatedOf t file .image) where
     -- the placed bytes are the first of them
-    pub part-fits : p .placed ≤ length image
+    pub part-fits : p .answer .placed ≤ length image
     part-fits = rw (d .placement, made) (omega (arith, slot-whole, end-inside (sections file) (sectionCount file) (d .fits)))
 
-    pub part-length : p .placed ≡ length (take (p .placed) image)
+    pub part-length : p .answer .placed ≡ length (take (p .answer .placed) image)
     part-length = sym (length-take-le _ image part-fits)
 
     -- where they begin, and how many they are
     abbrev begin : ℕ
-    begin = getD (p .layout .offsets) (g .records) 0
+    begin = getD (p .answer .layout .offsets) (g .records) 0
 
     abbrev count : ℕ
     count = sectionIn (g .sections) (g .records) .header .«sh_size» / recordSize
@@ -199,16 +197,18 @@ module _ {t : Setting} {file : List ℕ} {g : Reading} {p : Placement} (d : InSl
     count-is = rw (d .ready .read)
 
     -- all records lie in the placed bytes, and are at most 16
-    pub to-patch : (begin + recordSize * count ≤ length (take (p .placed) image)) × (count ≤ recordsMax)
-    to-patch =
+    pub to-patch : {k : ℕ} → k ≡ count → (begin + recordSize * k ≤ length (take (p .answer .placed) image)) × (k ≤ recordsMax)
+    to-patch counted =
         let found = index-found (sections file) (sectionCount file) Records (passing .counts .records) in
         let inside = placed-inside (sections file) (sectionCount file) (recordsIndex file) (found .0) (records-placed _ (found .1)) in
-        rw (← part-length, begin-is, count-is, d .placement) (omega (arith, inside), omega (arith, passing .records-most))
+        rw (counted, ← part-length, begin-is, count-is, d .placement) (omega (arith, inside), omega (arith, passing .records-most))
 
     -- the records have been answered with f
-    module _ {f : Functions} (answer : f ≡ functionsOf (patching (t .host) (take (p .placed) image) (t .list)) begin count) where
+    module _
+        {f : Functions} {k : ℕ} (counted : k ≡ count)
+        (answer : f ≡ functionsOf (patching (t .host) (take (p .answer .placed) image) (t .list)) begin k) where
       functions-are : f ≡ functionsOf (patchingOf t file) (recordsStart file) (recordCount file)
-      functions-are = answer ∙ rw (begin-is, count-is, d .placement, made)
+      functions-are = answer ∙ rw (counted, begin-is, count-is, d .placement, made)
 
       pub patch-told : {v : Verdict} → f .verdict ≡ v → patchRules t file ≡ v
       unfolding functionsOf
@@ -216,8 +216,8 @@ module _ {t : Setting} {file : List ℕ} {g : Reading} {p : Placement} (d : InSl
 
       pub all-built :
           f .verdict ≡ Pass →
-          _≡_ {A = Built}
-          (record { verdict = Pass; placed = p .placed; edits = f .edits; «edit_count» = f .count; image = image })
+          _≡_ {A = BuiltSlot}
+          (builtSlot (record { verdict = Pass; placed = p .answer .placed; edits = f .edits; «edit_count» = f .count }) image)
           (acceptedBuilt t file)
       unfolding functionsOf
       all-built h =

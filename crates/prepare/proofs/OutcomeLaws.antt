@@ -15,6 +15,7 @@ use Rattle.payload.proofs.ReadingLaws.{reading-told}
 use Rattle.acceptance.specs.Stages.{Setting, machineAt, readingFor, relocatedOf, buildRules, payloadRules}
 use Rattle.prepare.specs.Prepare.{
   Ready,
+  BuiltSlot,
   acceptedBuilt,
   builtOf,
   sizesOk,
@@ -25,7 +26,6 @@ use Rattle.prepare.specs.Prepare.{
   acceptedPrepared,
   prepareOf,
 }
-use Rattle.prepare.specs.declared.build.Built.{Built}
 use Rattle.prepare.proofs.BuildLaws.{built-told}
 
 -- ---- what the stages answered
@@ -41,12 +41,12 @@ module _ (m : Machine) (file : List ℕ) {g : Reading} (answer : g ≡ readingOf
   is-ready h = record { passes = read-told h; read = answer-told _ _ _ (reading-told file _ _) (readRules m file) Pass answer h }
 
 -- what was built, b
-module _ (t : Setting) (file : List ℕ) {b : Built} (answer : b ≡ builtOf t file) where
-  pub build-told : {v : Verdict} → b .verdict ≡ v → buildRules t file ≡ v
+module _ (t : Setting) (file : List ℕ) {b : BuiltSlot} (answer : b ≡ builtOf t file) where
+  pub build-told : {v : Verdict} → b .answer .verdict ≡ v → buildRules t file ≡ v
   unfolding builtOf
   build-told h = rules-told _ _ _ (built-told t file) _ _ answer h
 
-  pub built-all : b .verdict ≡ Pass → b ≡ acceptedBuilt t file
+  pub built-all : b .answer .verdict ≡ Pass → b ≡ acceptedBuilt t file
   unfolding builtOf
   built-all h = answer-told _ _ _ (built-told t file) (buildRules t file) Pass answer h
 
@@ -75,10 +75,10 @@ module _ (t : Setting) (file image : List ℕ) where
 
   -- the answer of what was read and built
   pub accepted :
-      {g : Reading} {b : Built} {slot : List ℕ} → g ≡ readingFor file → b ≡ acceptedBuilt t file → slot ≡ b .image →
+      {g : Reading} {b : BuiltSlot} {slot : List ℕ} → g ≡ readingFor file → b ≡ acceptedBuilt t file → slot ≡ b .image →
       _≡_ {A = Outcome}
       (outcome
-      (record { verdict = Pass; id = g .id; dependency = g .dependency; placed = b .placed; edits = b .edits; «edit_count» = b .«edit_count» })
+      (record { verdict = Pass; id = g .id; dependency = g .dependency; placed = b .answer .placed; edits = b .answer .edits; «edit_count» = b .answer .«edit_count» })
       slot)
       (outcomeBy t file image Pass)
   accepted read built written = rw (written, read, built)

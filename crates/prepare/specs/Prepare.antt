@@ -16,6 +16,7 @@ use Rattle.machine.specs.Host.{textMax}
 use Rattle.machine.specs.Machine.{Machine}
 use Rattle.payload.specs.Reading.{readRules}
 use Rattle.payload.specs.declared.read.Reading.{Reading}
+use Rattle.placement.specs.Placement.{noBytes}
 use Rattle.functions.specs.Functions.{editsOf}
 use Rattle.acceptance.specs.Broken.{Exact}
 use Rattle.acceptance.specs.Consulted.{Alike, DifferInIgnored}
@@ -40,27 +41,35 @@ pub record Ready (m : Machine) (file : List ℕ) (g : Reading) : Type 0 where
   pub passes : readRules m file ≡ Pass
   pub read : g ≡ readingFor file
 
-abbrev pub refusedBuilt : Refusal → Built
+-- the answer, and the slot's bytes after it
+pub record BuiltSlot : Type 0 where
+  pub answer : Built
+  pub image : List ℕ
+
+abbrev pub builtSlot : Built → List ℕ → BuiltSlot
+builtSlot answer image = record { answer = answer; image = image }
+
+abbrev pub refusedBuilt : Refusal → BuiltSlot
 refusedBuilt r =
     record {
-      verdict = Refuse r;
-      placed = 0;
-      edits = replicate recordsMax noEdit;
-      «edit_count» = 0;
-      image = replicate placedMax 0;
+      answer = record { verdict = Refuse r; placed = 0; edits = replicate recordsMax noEdit; «edit_count» = 0 };
+      image = noBytes;
     }
 
-abbrev pub acceptedBuilt : Setting → List ℕ → Built
+abbrev pub acceptedBuilt : Setting → List ℕ → BuiltSlot
 acceptedBuilt t file =
     record {
-      verdict = Pass;
-      placed = placedLength file;
-      edits = editsOf (patchingOf t file) (recordsStart file) (recordCount file);
-      «edit_count» = recordCount file;
+      answer =
+          record {
+            verdict = Pass;
+            placed = placedLength file;
+            edits = editsOf (patchingOf t file) (recordsStart file) (recordCount file);
+            «edit_count» = recordCount file;
+          };
       image = relocatedOf t file .image;
     }
 
-unfoldable pub builtOf : Setting → List ℕ → Built
+unfoldable pub builtOf : Setting → List ℕ → BuiltSlot
 builtOf t file = decide refusedBuilt (acceptedBuilt t file) (buildRules t file)
 
 -- ---- the rules of the call

@@ -59,12 +59,12 @@ pub fn prepare(file: &[u8], list: &[u8], host: Host, image: &mut [u8]) -> Prepar
     if let Verdict::Refuse(r) = read_verdict {
         return refuse(r);
     }
-    let built = build::build(file, list, host, reading);
+    let mut slot = [0u8; Payload::PLACED_MAX];
+    let built = build::build(&mut slot, file, list, host, reading);
     let built_verdict = built.verdict;
     if let Verdict::Refuse(r) = built_verdict {
         return refuse(r);
     }
-    let slot = built.image;
     words::bytes::copy(image, 0, &slot);
     let id = reading.id;
     let dependency = reading.dependency;

@@ -29,7 +29,8 @@ use super::fields::Area;
 use super::fields::Field;
 use super::fields::{self};
 use kinds::Kind;
-use linking::kept;
+use linking::kept::Cell;
+use linking::kept::{self};
 use machine::host::Host;
 use object::sections::SectionEntry;
 use object::sections::{self};
@@ -109,11 +110,10 @@ fn area_of(reading: Reading, layout: Layout, i: usize) -> Area
     requires { ⌜ layout ≡ layoutOf (reading .sections) (reading .count) ⌝ }
     ensures { λ r. ⌜ r ≡ areaOf (reading .sections) i ⌝ }
 {
-    let table = reading.sections;
-    let one = table[i];
+    let one = reading.sections[i];
     let h = one.header;
     let target = h.sh_info as usize;
-    let made_in = table[target];
+    let made_in = reading.sections[target];
     let target_header = made_in.header;
     let section = i as u16;
     let start = layout.offsets[target];
@@ -138,23 +138,24 @@ pub fn relocate(
     ensures { λ r. ⌜ relocated r (now (image .exit)) ≡ relocateAll (hostMachine host)
         (linkingOf host (now (file .entry)) reading (now (list .entry))) (now (file .entry)) (now (image .entry)) ⌝ }
 {
-    let table = reading.sections;
     let count = reading.count;
     let symbols = reading.symbols;
-    let symbol_entry = table[symbols];
+    let symbol_entry = reading.sections[symbols];
     let symbol_header = symbol_entry.header;
     let link = symbol_header.sh_link as usize;
-    let string_entry = table[link];
+    let string_entry = reading.sections[link];
     let strings = sections::contents_of(file, string_entry.header);
-    let mut cells = kept::read_symbols(
+    let mut cells = [0u64; Cell::COUNT];
+    kept::read_symbols(
+        &mut cells,
         host.slot,
         layout,
         sections::contents_of(file, symbol_header),
     );
     let mut i = 0;
     while i < count {
-        let one = table[i];
-        if is_relocating(table, one) {
+        let one = reading.sections[i];
+        if is_relocating(reading.sections, one) {
             let area = area_of(reading, layout, i);
             let entries = sections::contents_of(file, one.header);
             let v = relocate_entries(image, &mut cells, entries, strings, list, host, area);

@@ -3,7 +3,7 @@ use Prim.Native.Nat.{ℕ, _*_, _-_, _≤_, _<_}
 use mathlib.Core.Path.{_≡_}
 use native.Mathlib.Omega.{arith}
 use borrow.Author.Needs.{needs}
-use lib.ListN.{length, length-set, length-replicate}
+use lib.ListN.{length, length-set}
 use Rattle.linking.specs.Kept.{symbolsMax, Stands}
 use Rattle.linking.specs.Linking.{Linking}
 use Rattle.linking.proofs.KeptLaws.{HoldsAt, holds-written}
@@ -11,16 +11,19 @@ use Rattle.linking.proofs.kept.read_symbols.Statement.{statement}
 use Rattle.linking.proofs.kept.read_symbols.Tie as tie
 
 abbrev Inv-loop : tie.InvT-loop
-Inv-loop slot layout table cells₀ i₀ cells i =
+Inv-loop cells₀ slot layout table i₀ cells i =
     (i ≤ symbolsMax)
     × (length cells ≡ 2 * symbolsMax)
     × ((l : Linking) → Stands l slot layout → l .symbols ≡ table → (j : ℕ) → j < i → HoldsAt l cells j)
 
 abbrev μ-loop : tie.MeasureT-loop
-μ-loop slot layout table cells₀ i₀ cells i = symbolsMax - i
+μ-loop cells₀ slot layout table i₀ cells i = symbolsMax - i
 
 loop-holds : tie.Need-loop-holds Inv-loop μ-loop
-loop-holds c = (omega arith, length-replicate {A = ℕ} _ 0, λ l stands same j h. absurd (omega arith))
+loop-holds c = (omega arith, c .before .before .pre .0, λ l stands same j h. absurd (omega arith))
+
+slice-write-cells-2 : tie.Need-slice-write-cells-2 Inv-loop μ-loop
+slice-write-cells-2 c = simp length-set (omega (arith, c .before .before .loop .inv .1))
 
 loop-again : tie.Need-loop-again Inv-loop μ-loop
 loop-again c =
@@ -38,7 +41,7 @@ returns c = λ l stands same.
     let loop = c .before .loop in
     record {
       all = loop .inv .1;
-      short = rw same (c .before .before .before .pre);
+      short = rw same (c .before .before .before .before .pre .1);
       each = λ number h. loop .inv .2 l stands same number (omega arith);
     }
 
@@ -56,8 +59,9 @@ read-symbols-spec =
     (λ c. omega arith)
     (λ c. omega arith)
     (λ c. omega arith)
-    (λ c. omega arith)
+    slice-write-cells-2
     (λ c. omega arith)
     (λ c. omega arith)
     loop-again
+    (λ c. omega arith)
     returns)

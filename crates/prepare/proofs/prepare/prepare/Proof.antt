@@ -10,9 +10,9 @@ use Rattle.words.proofs.Splice.{splice-whole}
 use Rattle.records.specs.declared.refusal.Refusal.{Refusal}
 use Rattle.records.specs.declared.refusal.Verdict.the-variants.{Pass}
 use Rattle.machine.specs.Host.{hostMachine}
+use Rattle.placement.proofs.PlacementLaws.{no-bytes}
 use Rattle.acceptance.specs.Stages.{Setting, setting, buildRules}
-use Rattle.prepare.specs.Prepare.{Ready, outcome, sizesOk, acceptedBuilt, refusedPrepared, prepareOf, Prepares}
-use Rattle.prepare.specs.declared.build.Built.{Built}
+use Rattle.prepare.specs.Prepare.{Ready, BuiltSlot, builtSlot, outcome, sizesOk, acceptedBuilt, refusedPrepared, prepareOf, Prepares}
 use Rattle.prepare.specs.declared.prepare.Prepared.{Prepared}
 use Rattle.prepare.proofs.BuildLaws.{length-built}
 use Rattle.prepare.proofs.FaithfulLaws.{prepares}
@@ -72,41 +72,44 @@ module _ (c : tie.After-enum-told) where
   ready = is-ready _ _ (c .before .before .read .ensures) (c .enum-told .given .1)
 
 build-requires : tie.Need-build-requires
-build-requires c κs = (ready c, omega (arith, right c .if2 .left))
+build-requires c κs = (ready (c .before), omega (arith, right (c .before) .if2 .left), no-bytes)
 
 returns-4 : tie.Need-returns-4
 returns-4 c =
-    let building = c .before .before .before .before in
-    let read = building .before in
+    let building = c .before .before .before .before .before in
+    let read = building .before .before in
     let told = build-told _ _ (building .build .ensures) (c .before .before .built-verdict .given .1) in
     refused (begun (right read)) (c .refuse4 .ensures) (prepared-by _ _ _ (sizes (right read)) (ready read .passes) told)
 
 -- where all is built
 module _ (c : tie.After-enum-told2) where
+  abbrev building : tie.After-build
+  building = c .before .before .before
+
   abbrev read : tie.After-enum-told
-  read = c .before .before .before
+  read = building .before .before
 
   abbrev start : tie.Start
   start = begun (right read)
 
   built-rules : buildRules (aim start) (file-of start) ≡ Pass
-  built-rules = build-told _ _ (c .before .before .build .ensures) (c .enum-told2 .given .1)
+  built-rules = build-told _ _ (building .build .ensures) (c .enum-told2 .given .1)
 
-  built : c .before .before .build .result ≡ acceptedBuilt (aim start) (file-of start)
-  built = built-all _ _ (c .before .before .build .ensures) (c .enum-told2 .given .1)
+  built : builtSlot (building .build .result) (building .build .last .0) ≡ acceptedBuilt (aim start) (file-of start)
+  built = built-all _ _ (building .build .ensures) (c .enum-told2 .given .1)
 
-  slot-length : length (c .before .before .build .result .image) ≡ length (slot-of start)
+  slot-length : length (building .build .last .0) ≡ length (slot-of start)
   slot-length =
-      ap (λ (x : Built). length (x .image)) built
+      ap (λ (x : BuiltSlot). length (x .image)) built
       ∙ length-built (aim start) (file-of start) (ready read .passes) built-rules
       ∙ sym (right read .before .before .if1 .left)
 
 copy-requires : tie.Need-copy-requires
-copy-requires c κs = omega (arith, slot-length (c .before .before .before))
+copy-requires c κs = omega (arith, slot-length (c .before .before))
 
 returns-5 : tie.Need-returns-5
 returns-5 c =
-    let done = c .before .before .before .before .before .before .before .before .before in
+    let done = c .before .before .before .before .before .before .before .before in
     let s = start done in
     let here = read done in
     prepares _ _ _
@@ -126,6 +129,7 @@ prepare-spec =
     (λ c. search needs)
     (λ c κs. search needs)
     returns-3
+    (λ c. search needs)
     (λ c. search needs)
     build-requires
     (λ c. search needs)

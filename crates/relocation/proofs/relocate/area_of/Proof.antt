@@ -9,9 +9,9 @@ mul-made-in : tie.Need-mul-made-in
 unfolding noEntry
 mul-made-in c = omega arith
 
-array-copy-out-made-in : tie.Need-array-copy-out-made-in
+element-copy-out-made-in : tie.Need-element-copy-out-made-in
 unfolding noEntry
-array-copy-out-made-in c = omega arith
+element-copy-out-made-in c = omega arith
 
 mul-start : tie.Need-mul-start
 unfolding noEntry
@@ -24,7 +24,7 @@ element-copy-out-start c = omega arith
 returns : tie.Need-returns
 unfolding noEntry
 returns c =
-    let pre = c .before .before .before .before .before .before .pre in
+    let pre = c .before .before .before .before .before .pre in
     rw (pre .1 .1, offset-kept _ _ _ (pre .1 .0))
 
 pub area-of-spec : {M : Type 1} → statement M
@@ -34,7 +34,7 @@ area-of-spec =
     (λ c. omega arith)
     (λ c. omega arith)
     mul-made-in
-    array-copy-out-made-in
+    element-copy-out-made-in
     (λ c. omega arith)
     mul-start
     element-copy-out-start
