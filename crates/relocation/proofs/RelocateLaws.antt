@@ -1,17 +1,17 @@
 -- Relocation over the slot's bytes: a turn and the end of each loop, and that the slot keeps its length.
 use Prim.Native.Nat.{ℕ, zero, suc, _+_, _*_, _-_, _≤_, _<_}
 use mathlib.Core.Path.{_≡_, refl, sym, _∙_}
-use mathlib.Core.Bool.{Bool, true, false}
+use mathlib.Core.Bool.{Bool, true, false, cond, not, _&&_}
 use mathlib.Core.List.{List, [], _∷_}
 use native.Mathlib.Numerals.{add-one}
 use native.Mathlib.Omega.{arith}
 use denote.Enum.Declared.{tagOf}
-use lib.ListN.{length, length-take, length-drop}
+use lib.ListN.{length, getD, length-take, length-drop}
 use types.Run.{OneOf, miss}
 use Rattle.words.specs.Splice.{part}
 use Rattle.words.proofs.Splice.{length-part, length-splice}
 use Rattle.words.proofs.Tests.{both}
-use Rattle.records.specs.Limits.{placedMax}
+use Rattle.records.specs.Limits.{placedMax, sectionsMax}
 use Rattle.records.specs.declared.refusal.Verdict.{Verdict}
 use Rattle.records.specs.declared.refusal.Verdict.the-variants.{Pass, Refuse}
 use Rattle.elf.specs.Layout.{relocationSize, relocationOf}
@@ -21,10 +21,13 @@ use Rattle.machine.specs.Machine.{Machine}
 use Rattle.machine.specs.declared.host.Host.{Host}
 use Rattle.machine.proofs.Laws.{length-field}
 use Rattle.kinds.specs.Kinds.{isKind}
-use Rattle.kinds.specs.declared.Kind.the-variants.{Relocations}
+use Rattle.kinds.specs.declared.Kind.the-variants.{Relocations, Ignored}
 use Rattle.object.specs.Sections.{sectionIn, contentsOf}
 use Rattle.object.specs.declared.sections.SectionEntry.{SectionEntry}
 use Rattle.payload.specs.declared.read.Reading.{Reading}
+use Rattle.placement.specs.Placement.{layoutOf}
+use Rattle.placement.specs.declared.Layout.{Layout}
+use Rattle.placement.proofs.PlacementLaws.{offset-kept}
 use Rattle.linking.specs.Kept.{Kept}
 use Rattle.linking.specs.Linking.{Linking}
 use Rattle.reader.specs.Entries.{relocationCount}
@@ -39,7 +42,9 @@ use Rattle.relocation.specs.Relocating.{
   relocateEntry,
   continue,
   relocateEntries,
+  isMadeIn,
   isRelocating,
+  targetOf,
   areaOf,
   relocateSection,
   relocateFrom,
@@ -99,6 +104,43 @@ module _ (m : Machine) (l : Linking) (area : Area) (entries : List ℕ) (e n : �
 pub relocating-kind : (ss : List SectionEntry) (s : SectionEntry) → isRelocating ss s ≡ true → isKind (s .kind) Relocations ≡ true
 unfolding isRelocating
 relocating-kind ss s e = both _ _ e .0
+
+-- the numbers of the kinds but Relocations
+unfoldable pub no-relocations : List ℕ
+no-relocations = 0 ∷ 1 ∷ 2 ∷ 3 ∷ 4 ∷ 5 ∷ 6 ∷ 7 ∷ 9 ∷ 10 ∷ []
+
+-- the target, as the code looks for it
+module _ (ss : List SectionEntry) (s : SectionEntry) where
+  pub made-in-target : isMadeIn s (sectionIn ss (targetOf s)) ≡ isRelocating ss s
+  unfolding isRelocating
+  made-in-target = by-kind (isKind (s .kind) Relocations)
+    where
+      by-kind :
+          (b : Bool) →
+          (b && not (isKind (sectionIn ss (cond b (s .header .«sh_info») 0) .kind) Ignored))
+          ≡ (b && not (isKind (sectionIn ss (s .header .«sh_info») .kind) Ignored))
+      by-kind true = refl
+      by-kind false = refl
+
+  pub target-is : isRelocating ss s ≡ true → targetOf s ≡ s .header .«sh_info»
+  target-is e = rw (relocating-kind ss s e)
+
+pub target-below :
+    (s : SectionEntry) → (isKind (s .kind) Relocations ≡ true → s .header .«sh_info» < sectionsMax) → targetOf s < sectionsMax
+target-below s h = by-kind (isKind (s .kind) Relocations) refl
+  where
+    by-kind : (b : Bool) → isKind (s .kind) Relocations ≡ b → targetOf s < sectionsMax
+    by-kind true e = rw e (h e)
+    by-kind false e = rw e (omega arith)
+
+-- where the layout has it
+pub area-at :
+    (ss : List SectionEntry) (n i : ℕ) {target : ℕ} {layout : Layout} → target ≡ sectionIn ss i .header .«sh_info» → layout ≡ layoutOf ss n →
+    sectionIn ss i .header .«sh_info» < n →
+    _≡_ {A = Area}
+    (record { section = i; start = getD (layout .offsets) target 0; size = sectionIn ss target .header .«sh_size» })
+    (areaOf ss i)
+area-at ss n i e placed below = rw (e, placed, offset-kept _ _ _ below)
 
 pub contents-short : (file : List ℕ) (h : SectionHeader) → length (contentsOf file h) ≤ length file
 unfolding contentsOf part

@@ -124,8 +124,15 @@ relocateEntries m l area entries e (suc k) image =
     continue (relocateEntry m l area entries e image) (relocateEntries m l area entries (suc e) k)
 
 -- "in the second case the type 4 contents are ignored too"
+abbrev pub isMadeIn : SectionEntry → SectionEntry → Bool
+isMadeIn s target = isKind (s .kind) Relocations && not (isKind (target .kind) Ignored)
+
 unfoldable pub isRelocating : List SectionEntry → SectionEntry → Bool
-isRelocating ss s = isKind (s .kind) Relocations && not (isKind (sectionIn ss (s .header .«sh_info») .kind) Ignored)
+isRelocating ss s = isMadeIn s (sectionIn ss (s .header .«sh_info»))
+
+-- where the code looks for the target: at section 0, where a section has none
+abbrev pub targetOf : SectionEntry → ℕ
+targetOf s = cond (isKind (s .kind) Relocations) (s .header .«sh_info») 0
 
 -- "The target (sh_info)" of relocation section i: where it stands in the slot, and its size
 abbrev pub areaOf : List SectionEntry → ℕ → Area

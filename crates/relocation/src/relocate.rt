@@ -1,13 +1,9 @@
 // All relocations of a payload, by section index and then entry, over the slot's bytes.
 ghost use mathlib.Core.Path.{_≡_};
-ghost use mathlib.Core.Bool.{true};
-ghost use Prim.Native.Nat.{_≤_, _<_};
+ghost use Prim.Native.Nat.{_≤_};
 ghost use lib.ListN.{length};
-ghost use Rattle.records.specs.Limits.{sectionsMax, placedMax, fileMax};
+ghost use Rattle.records.specs.Limits.{placedMax, fileMax};
 ghost use Rattle.machine.specs.Host.{hostMachine};
-ghost use Rattle.kinds.specs.Kinds.{isKind};
-ghost use Rattle.kinds.specs.declared.Kind.the-variants.{Relocations};
-ghost use Rattle.object.specs.Sections.{sectionIn};
 ghost use Rattle.placement.specs.Placement.{layoutOf};
 ghost use Rattle.linking.specs.Kept.{Kept};
 ghost use Rattle.linking.specs.Linking.{Linking};
@@ -20,8 +16,8 @@ ghost use Rattle.relocation.specs.Relocating.{
   relocated,
   fieldFits,
   storeIn,
-  isRelocating,
-  areaOf,
+  targetOf,
+  isMadeIn,
   relocateEntries,
   relocateAll,
 };
@@ -38,7 +34,6 @@ use payload::read::Reading;
 use placement::Layout;
 use reader::cursor::Cursor;
 use reader::cursor::Next;
-use records::payload::Payload;
 use records::refusal::Place;
 use records::refusal::Verdict;
 
@@ -84,44 +79,31 @@ fn relocate_entries(
     }
 }
 
-// Whether the section's relocations are made: those of an ignored target are ignored too.
-fn is_relocating(table: [SectionEntry; Payload::SECTIONS_MAX], s: SectionEntry) -> bool
-    requires { ⌜ (isKind (s .kind) Relocations ≡ true → s .header .«sh_info» < sectionsMax) ⌝ }
-    ensures { λ r. ⌜ r ≡ isRelocating table s ⌝ }
+// The section that a relocation section is for; 0 for any other section.
+fn target_of(s: SectionEntry) -> usize
+    ensures { λ r. ⌜ r ≡ targetOf s ⌝ }
+{
+    let kind = s.kind;
+    let Kind::Relocations = kind else {
+        return 0;
+    };
+    let h = s.header;
+    h.sh_info as usize
+}
+
+// Whether the section's relocations are made in `target`: those of an ignored target are ignored too.
+fn is_relocating(s: SectionEntry, target: SectionEntry) -> bool
+    ensures { λ r. ⌜ r ≡ isMadeIn s target ⌝ }
 {
     let kind = s.kind;
     let Kind::Relocations = kind else {
         return false;
     };
-    let h = s.header;
-    let target = h.sh_info as usize;
-    let made_in = table[target];
-    let target_kind = made_in.kind;
+    let target_kind = target.kind;
     if let Kind::Ignored = target_kind {
         return false;
     }
     true
-}
-
-// Where the target of relocation section i stands in the slot, and its size.
-fn area_of(reading: Reading, layout: Layout, i: usize) -> Area
-    requires { ⌜ (reading .count ≤ sectionsMax) × (i < reading .count) ⌝ }
-    requires { ⌜ sectionIn (reading .sections) i .header .«sh_info» < reading .count ⌝ }
-    requires { ⌜ layout ≡ layoutOf (reading .sections) (reading .count) ⌝ }
-    ensures { λ r. ⌜ r ≡ areaOf (reading .sections) i ⌝ }
-{
-    let one = reading.sections[i];
-    let h = one.header;
-    let target = h.sh_info as usize;
-    let made_in = reading.sections[target];
-    let target_header = made_in.header;
-    let section = i as u16;
-    let start = layout.offsets[target];
-    Area {
-        section,
-        start,
-        size: target_header.sh_size,
-    }
 }
 
 // All relocations, by section index, up to the first that is refused.
@@ -155,8 +137,17 @@ pub fn relocate(
     let mut i = 0;
     while i < count {
         let one = reading.sections[i];
-        if is_relocating(reading.sections, one) {
-            let area = area_of(reading, layout, i);
+        let target = target_of(one);
+        let made_in = reading.sections[target];
+        if is_relocating(one, made_in) {
+            let section = i as u16;
+            let start = layout.offsets[target];
+            let made_header = made_in.header;
+            let area = Area {
+                section,
+                start,
+                size: made_header.sh_size,
+            };
             let entries = sections::contents_of(file, one.header);
             let v = relocate_entries(image, &mut cells, entries, strings, list, host, area);
             if let Verdict::Refuse(_) = v {

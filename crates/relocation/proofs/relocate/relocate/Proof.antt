@@ -1,13 +1,14 @@
 -- `relocate` meets its contract: at each turn the sections from `i` on, over the bytes as they are, give what all of them give.
-use Prim.Native.Nat.{ℕ, _+_, _-_, _≤_}
-use mathlib.Core.Path.{_≡_, refl, sym, _∙_}
+use Prim.Native.Nat.{ℕ, _+_, _-_, _≤_, _<_}
+use mathlib.Core.Path.{_≡_, refl, sym, subst⁻¹, _∙_}
 use mathlib.Core.Bool.{true}
 use mathlib.Core.List.{List}
 use mathlib.Core.Logic.{⊎-elim}
 use native.Mathlib.Nat.{le-trans}
 use native.Mathlib.Omega.{arith}
 use borrow.Author.Needs.{needs}
-use lib.ListN.{length, length-replicate}
+use lib.ListN.{length, getD, length-replicate}
+use Rattle.records.specs.Limits.{sectionsMax}
 use Rattle.records.specs.declared.refusal.Verdict.the-variants.{Pass}
 use Rattle.machine.specs.Host.{hostMachine}
 use Rattle.object.specs.Sections.{sectionIn, noEntry}
@@ -20,18 +21,21 @@ use Rattle.relocation.specs.Relocating.{
   relocated,
   continue,
   isRelocating,
+  areaOf,
+  areaFits,
   relocateSection,
   relocateFrom,
   relocateAll,
   linkingOf,
   Given,
 }
-use Rattle.relocation.proofs.RelocateLaws.{relocating-kind, contents-short, section-made, section-passed, sections-turn, sections-end}
+use Rattle.relocation.specs.declared.fields.Area.{Area}
+use Rattle.relocation.proofs.RelocateLaws.{relocating-kind, made-in-target, target-is, target-below, area-at, contents-short, section-made, section-passed, sections-turn, sections-end}
 use Rattle.relocation.proofs.relocate.relocate.Statement.{statement}
 use Rattle.relocation.proofs.relocate.relocate.Tie as tie
 
 abbrev Inv-loop : tie.InvT-loop
-Inv-loop image₀ file list host layout reading count symbols link strings cells₀ i₀ image cells i =
+Inv-loop image₀ file list host reading layout count symbols link strings cells₀ i₀ image cells i =
     let l = linkingOf host file reading list in
     (i ≤ reading .count)
     × (length image ≡ length image₀)
@@ -39,7 +43,7 @@ Inv-loop image₀ file list host layout reading count symbols link strings cells
     × Kept l cells
 
 abbrev μ-loop : tie.MeasureT-loop
-μ-loop image₀ file list host layout reading count symbols link strings cells₀ i₀ image cells i = reading .count - i
+μ-loop image₀ file list host reading layout count symbols link strings cells₀ i₀ image cells i = reading .count - i
 
 mul-string-entry : tie.Need-mul-string-entry Inv-loop μ-loop
 unfolding noEntry
@@ -121,43 +125,65 @@ turn :
     ≡ continue (gives c) (from (i + 1) (reading (c .before .before) .count - (i + 1)))
 turn c = c .before .loop .inv .2 ∙ sections-turn _ _ _ _ _ _ (c .loop-test .taken)
 
-is-relocating-requires : tie.Need-is-relocating-requires Inv-loop μ-loop
+-- its target is a section of the table
+in-table : (c : tie.After-target-of Inv-loop μ-loop) → c .target-of .result < sectionsMax
 unfolding noEntry
-is-relocating-requires c κs =
+in-table c =
     let this = c .before .before in
     let linkable = start (this .before .before) .pre .0 in
-    λ kind. omega (arith, linkable .few, linkable .targets _ (this .loop-test .taken) kind)
+    rw (c .target-of .ensures)
+    (target-below (section this) (λ kind. omega (arith, linkable .few, linkable .targets _ (this .loop-test .taken) kind)))
 
--- past the test its relocations are made
-made : (c : tie.Then1 Inv-loop μ-loop) → let this = c .before .before .before .before in isRelocating (sections this) (section this) ≡ true
-unfolding noEntry
-made c = sym (c .before .is-relocating .ensures) ∙ c .if1 .taken
-
-area-of-requires : tie.Need-area-of-requires Inv-loop μ-loop
-area-of-requires c κs =
+-- the test, and past it: its relocations are made, in the area of its target
+relocates :
+    (c : tie.After-is-relocating Inv-loop μ-loop) →
     let this = c .before .before .before .before in
-    let pre = start (this .before .before) .pre in
-    let below = this .loop-test .taken in
-    ((pre .0 .few, below), (pre .0 .targets _ below (relocating-kind _ _ (made c)), pre .1))
+    c .is-relocating .result ≡ isRelocating (sections this) (section this)
+unfolding noEntry
+relocates c =
+    let this = c .before .before .before .before in
+    c .is-relocating .ensures ∙ rw (c .before .before .target-of .ensures) (made-in-target (sections this) (section this))
+
+module _ (c : tie.Then1 Inv-loop μ-loop) where
+  abbrev this : tie.In-loop Inv-loop μ-loop
+  this = c .before .before .before .before .before
+
+  made : isRelocating (sections this) (section this) ≡ true
+  made = sym (relocates (c .before)) ∙ c .if1 .taken
+
+  area-is :
+      let target = c .before .before .before .target-of .result in
+      _≡_ {A = Area}
+      (record {
+        section = this .before .loop .i;
+        start = getD (start (this .before .before) .args .t6 .offsets) target 0;
+        size = sectionIn (sections this) target .header .«sh_size»;
+      })
+      (areaOf (sections this) (this .before .loop .i))
+  unfolding noEntry
+  area-is =
+      let pre = start (this .before .before) .pre in
+      let below = pre .0 .targets _ (this .loop-test .taken) (relocating-kind _ _ made) in
+      area-at (sections this) _ _ (c .before .before .before .target-of .ensures ∙ target-is (sections this) (section this) made) (pre .1) below
 
 slice-aggregate-relocate-entries : tie.Need-slice-aggregate-relocate-entries Inv-loop μ-loop
 slice-aggregate-relocate-entries c =
-    let loop = c .before .before .before .before .before .before .before .before .before in
+    let loop = c .before .before .before .before .before .before .before .before .before .before .before in
     sym (loop .loop .inv .3 .all)
 
 relocate-entries-requires : tie.Need-relocate-entries-requires Inv-loop μ-loop
 unfolding noEntry
 relocate-entries-requires c κs =
     let contents = c .before .before in
-    let tested = contents .before .before in
-    let this = tested .before .before .before .before in
-    let linkable = start (this .before .before) .pre .0 in (
+    let tested = contents .before .before .before in
+    let turned = this tested in
+    let linkable = start (turned .before .before) .pre .0 in (
       (
-        this .before .loop .inv .1 ∙ linkable .whole,
-        rw (contents .before .area-of .ensures) (linkable .inside _ (this .loop-test .taken) (made tested)),
+        turned .before .loop .inv .1 ∙ linkable .whole,
+        subst⁻¹ (λ (a : Area). areaFits a) (area-is tested) (linkable .inside _ (turned .loop-test .taken) (made tested)),
         rw (contents .contents-of3 .ensures) (le-trans (contents-short _ _) (linkable .short)),
       ),
-      (_, given (this .before)),
+      (_, given (turned .before)),
     )
 
 returns : tie.Need-returns Inv-loop μ-loop
@@ -165,33 +191,31 @@ unfolding noEntry
 returns c =
     let left = c .before .before .before .before .before in
     let contents = left .before .before .before in
-    let tested = contents .before .before in
-    let this = tested .before .before .before .before in
-    let gave = left .relocate-entries .ensures _ (given (this .before)) .0 in
-    let refused = section-made _ _ _ _ _ (made tested) (contents .before .area-of .ensures) (contents .contents-of3 .ensures) gave in
-    sym (turn this ∙ rw (refused, c .enum-told .given .1))
+    let tested = contents .before .before .before in
+    let gave = left .relocate-entries .ensures _ (given (this tested .before)) .0 in
+    let refused = section-made _ _ _ _ _ (made tested) (area-is tested) (contents .contents-of3 .ensures) gave in
+    sym (turn (this tested) ∙ rw (refused, c .enum-told .given .1))
 
 -- where nothing was refused: the bytes' length, what the section gives, and the cells
 passed :
     (c : tie.Joined1 Inv-loop μ-loop) →
-    let this = c .before .before .before .before in
+    let this = c .before .before .before .before .before in
     (length (c .if1 .image) ≡ length (this .before .loop .image))
     × (gives this ≡ relocated Pass (c .if1 .image))
     × Kept (against (this .before .before)) (c .if1 .cells)
 unfolding noEntry
 passed c =
-    let loop = c .before .before .before .before .before in
-    let tested = sym (c .before .is-relocating .ensures) in
+    let loop = c .before .before .before .before .before .before in
+    let tested = sym (relocates (c .before)) in
     ⊎-elim
     (λ w.
-    let area = w .1 in
-    let contents = w .2 in
-    let entries = w .5 in
-    let told = w .10 in
+    let contents = w .3 in
+    let entries = w .6 in
+    let told = w .11 in
     let gave = entries .ensures _ (given loop) in
-    rw (w .11, w .12) (
+    rw (w .12, w .13) (
       entries .kept .0,
-      section-made _ _ _ _ _ (tested ∙ w .0 .taken) (area .ensures) (contents .ensures) (gave .0) ∙ rw (told .given .1),
+      section-made _ _ _ _ _ (tested ∙ w .0 .taken) (area-is (record { before = c .before; if1 = w .0 })) (contents .ensures) (gave .0) ∙ rw (told .given .1),
       gave .1,
     ))
     (λ w. rw (w .1, w .2) (refl, section-passed _ _ _ _ _ (tested ∙ w .0 .left), loop .loop .inv .3))
@@ -199,7 +223,7 @@ passed c =
 
 loop-again : tie.Need-loop-again Inv-loop μ-loop
 loop-again c =
-    let this = c .before .before .before .before in
+    let this = c .before .before .before .before .before in
     (omega arith, passed c .0 ∙ this .before .loop .inv .1, turn this ∙ rw (passed c .1), passed c .2)
 
 -- ---- the end
@@ -224,8 +248,13 @@ relocate-spec =
     loop-holds
     (λ c. omega arith)
     (λ c. omega arith)
-    is-relocating-requires
-    area-of-requires
+    (λ c κs. search needs)
+    (λ c. omega (arith, in-table c))
+    in-table
+    (λ c κs. search needs)
+    (λ c. omega arith)
+    (λ c. omega (arith, in-table (c .before .before .before)))
+    (λ c. in-table (c .before .before .before))
     (λ c κs. search needs)
     slice-aggregate-relocate-entries
     relocate-entries-requires
