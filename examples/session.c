@@ -1,4 +1,4 @@
-/* session: a day of the loader on a hypervisor of 48 bytes, call by call with the answers. Fixes are uploaded, refused, applied, stacked,
+/* session: drives the loader on a hypervisor of 48 bytes, call by call, and shows the answers. Fixes are uploaded, refused, applied, stacked,
  * replaced and reverted, with a time-out between. Exit status 0 only where every answer is the one that is expected.
  *
  *   ./build
