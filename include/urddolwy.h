@@ -5,9 +5,9 @@
  * come one after the other. docs/integrators.md tells how to use them in a hypervisor, and examples/session.c does so.
  *
  * What a call needs of its host
- *   functions   memcpy, memmove and memset. Nothing else is called, and nothing is allocated.
+ *   functions   memcpy and memset. Nothing else is called, and nothing is allocated.
  *   registers   general registers only. Vector, MMX and x87 registers and their control words are neither read nor written; see
- *               to it that memcpy, memmove and memset keep to that too.
+ *               to it that memcpy and memset keep to that too.
  *   stack       as many bytes as the URDDOLWY_.._STACK below say, aligned to 8. No byte below the stack pointer is used (no red
  *               zone), so an interrupt may take the same stack; what it needs comes on top.
  *   flags       the direction flag clear, as for every C function.
@@ -59,21 +59,21 @@ enum urddolwy_place {
 #define URDDOLWY_FIRST(answer) ((unsigned)(((answer) >> 16) & 0xffff))
 #define URDDOLWY_SECOND(answer) ((unsigned)(((answer) >> 32) & 0xffff))
 
-/* The stack that a call takes, in bytes: its arguments, its return address and 256 bytes for memcpy, memmove and memset are in it.
+/* The stack that a call takes, in bytes: its arguments, its return address and 256 bytes for memcpy and memset are in it.
  * tests/library/run measures it. */
 #define URDDOLWY_CHECK_SYMBOLS_STACK 1024
-#define URDDOLWY_CHECK_FILE_STACK 26624
-#define URDDOLWY_PREPARE_STACK 57344
+#define URDDOLWY_CHECK_FILE_STACK 16384
+#define URDDOLWY_PREPARE_STACK 35840
 #define URDDOLWY_RECORDS_SIZE_STACK 1024
-#define URDDOLWY_START_STACK 15360
-#define URDDOLWY_UPLOAD_STACK 81920
-#define URDDOLWY_GET_STACK 25600
-#define URDDOLWY_LIST_STACK 25600
-#define URDDOLWY_ACTION_STACK 39936
-#define URDDOLWY_REPORT_STACK 25600
-#define URDDOLWY_TICK_STACK 29696
-#define URDDOLWY_WORK_STACK 54272
-#define URDDOLWY_TOP_BUILD_ID_STACK 29696
+#define URDDOLWY_START_STACK 10240
+#define URDDOLWY_UPLOAD_STACK 40960
+#define URDDOLWY_GET_STACK 20480
+#define URDDOLWY_LIST_STACK 16384
+#define URDDOLWY_ACTION_STACK 29696
+#define URDDOLWY_REPORT_STACK 2048
+#define URDDOLWY_TICK_STACK 2048
+#define URDDOLWY_WORK_STACK 2048
+#define URDDOLWY_TOP_BUILD_ID_STACK 20480
 
 /* ---- A payload by itself: no memory is lent, nothing is kept. */
 

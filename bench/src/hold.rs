@@ -91,35 +91,34 @@ fn holds() -> [Hold; 3] {
 }
 
 impl Hold {
-    /// All work steps; the same with a get after each, as docs/integrators.md drives a job; as many reports, which read, check
-    /// and write back the state; as many gets, which only read and check it.
-    fn cases(&self) -> [Case; 4] {
+    /// All work steps; the same with a get after each, as docs/integrators.md drives a job; as many reports, which check the state
+    /// and write the job and make no edit.
+    fn cases(&self) -> [Case; 3] {
         let get = Does::Get { name: name(self.slot) };
-        let driven = vec![[Does::Work, get.clone()]; self.steps].concat();
+        let driven = vec![[Does::Work, get]; self.steps].concat();
         let reports = vec![Does::Report { cpu: 0 }; self.steps];
-        [works(self.steps), driven, reports, vec![get; self.steps]].map(|calls| self.case.timing(calls))
+        [works(self.steps), driven, reports].map(|calls| self.case.timing(calls))
     }
 
     fn show(&self, rounds: usize) -> Result<(), String> {
         let cases = self.cases();
-        let mut sides = [cases[0].sides()?, cases[1].sides()?, cases[2].sides()?, cases[3].sides()?];
+        let mut sides = [cases[0].sides()?, cases[1].sides()?, cases[2].sides()?];
         let mut bare = Bare::new(&sides[0][0].memory).ok_or("no job stands")?;
-        let [[a, b], [c, d], [e, f], [g, h]] = &mut sides;
-        let timed: [&mut dyn Timed; 10] = [a, b, c, d, e, f, g, h, &mut bare, &mut || 0];
-        let [a, b, c, d, e, f, g, h, bare_times, clock] = in_turn(rounds, timed);
+        let [[a, b], [c, d], [e, f]] = &mut sides;
+        let timed: [&mut dyn Timed; 8] = [a, b, c, d, e, f, &mut bare, &mut || 0];
+        let [a, b, c, d, e, f, bare_times, clock] = in_turn(rounds, timed);
         if sides.iter().any(|[a, b]| a.memory != b.memory) || !bare.leaves(&sides[0][0].memory) {
             return Err("after the last round the memory differs".to_string());
         }
-        let (work, reports, gets) = ([a, b], [e, f], [g, h]);
+        let (work, reports) = ([a, b], [e, f]);
         let steps = self.steps;
         print_line(&format!("to the job's end, edits: {steps}"), 1, &work);
         print_line("  each work step", steps, &work);
         print_line("  with a get after each step, each pair", steps, &[c, d]);
-        print_line("  as many reports (state read, checked, written), each", steps, &reports);
-        print_line("  as many gets (state read, checked), each", steps, &gets);
+        print_line("  as many reports (state checked, job written), each", steps, &reports);
         print_bare(steps, &bare_times, &clock);
-        print_shares("proved library", [&gets[0], &reports[0], &work[0]], &clock);
-        print_shares("second loader", [&gets[1], &reports[1], &work[1]], &clock);
+        print_shares("proved library", [&reports[0], &work[0]], &clock);
+        print_shares("second loader", [&reports[1], &work[1]], &clock);
         Ok(())
     }
 
@@ -152,11 +151,11 @@ fn print_bare(steps: usize, bare: &Times, clock: &Times) {
     println!("    the bare writing, less the clock: median {median:.0} ns, {each:.1} each; least {least:.0} ns");
 }
 
-/// What the work steps' time goes to, by the medians of gets, reports and work steps.
-fn print_shares(name: &str, times: [&Times; 3], clock: &Times) {
-    let [gets, reports, work] = times.map(|times| net(times, clock, 50));
-    let [read, write, edit] = [gets, reports - gets, work - reports].map(|part| 100.0 * part / work);
-    println!("    {name}: {read:.0} % read and check, {write:.0} % write back, {edit:.0} % the rest, with the edit");
+/// What the work steps' time goes to, by the medians of reports and work steps.
+fn print_shares(name: &str, times: [&Times; 2], clock: &Times) {
+    let [reports, work] = times.map(|times| net(times, clock, 50));
+    let [state, edit] = [reports, work - reports].map(|part| 100.0 * part / work);
+    println!("    {name}: {state:.0} % reading, checking and writing the state, {edit:.0} % the rest, with the edit");
 }
 
 /// Checks all; how many cases there are.

@@ -1,7 +1,7 @@
 /* What the programs here use to call a function of the library as a hypervisor would: on a stack of the test's own that is not aligned to
- * 16, with memcpy, memmove and memset of the test's own, and with a pattern in every register that has to stay as it is. The answer and the
+ * 16, with memcpy and memset of the test's own, and with a pattern in every register that has to stay as it is. The answer and the
  * buffers have to be those of a plain call. The stack that a call wrote to is measured: at most the bound, which is that of the
- * code (stack.awk). The bound, the arguments on the stack and 256 bytes for memcpy, memmove and memset have to be within what the header says.
+ * code (stack.awk). The bound, the arguments on the stack and 256 bytes for memcpy and memset have to be within what the header says.
  * A program defines `struct buffers`, all that its functions may write, before it includes this. */
 #include <signal.h>
 #include <stdio.h>
@@ -161,7 +161,7 @@ static void stacks(const struct function *functions, int count)
 {
     for (const struct function *f = functions; f < functions + count; f++) {
         size_t needed = f->bound + f->on_stack + FOR_MEMORY;
-        printf("%s: %zu bytes of stack measured, at most %zu by its code, with arguments and room for memcpy, memmove and memset %zu of %zu\n",
+        printf("%s: %zu bytes of stack measured, at most %zu by its code, with arguments and room for memcpy and memset %zu of %zu\n",
                f->name, f->measured, f->bound, needed, f->promised);
         expect(f->name, "all", "more stack than its code takes", f->measured > f->bound, 0);
         expect(f->name, "all", "more stack than the header says", needed > f->promised, 0);

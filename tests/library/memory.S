@@ -1,4 +1,4 @@
-/* memcpy, memmove and memset as a host without vector registers may have them. They take no stack but the return address. */
+/* memcpy and memset as a host without vector registers may have them. They take no stack but the return address. */
         .text
         .globl memcpy
         .type memcpy, @function
@@ -12,23 +12,6 @@ memcpy:
         rep movsb
         ret
         .size memcpy, . - memcpy
-
-        .globl memmove
-        .type memmove, @function
-memmove:
-        mov %rdi, %rax
-        mov %rdi, %rcx
-        sub %rsi, %rcx
-        cmp %rdx, %rcx
-        jae memcpy              /* the target does not begin inside the source */
-        lea -1(%rdi,%rdx), %rdi
-        lea -1(%rsi,%rdx), %rsi
-        mov %rdx, %rcx
-        std
-        rep movsb
-        cld
-        ret
-        .size memmove, . - memmove
 
         .globl memset
         .type memset, @function

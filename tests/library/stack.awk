@@ -1,5 +1,5 @@
 # From `objdump -drw --no-show-raw-insn`: the bytes of stack that a call of each of the functions `names` takes at most, its return
-# address among them, on one line. memcpy, memmove and memset count for their return address.
+# address among them, on one line. memcpy and memset count for their return address.
 # A function's own are its pushes, and what it takes off the stack pointer: no less than the largest number that it adds again, as a
 # prologue may subtract in a loop. Status 1 where the code has anything that this does not cover: another change of the stack
 # pointer, an indirect call, recursion.
@@ -50,7 +50,7 @@ function unknown(what) {
 }
 
 function need(f, level,    to, count, i, n, deepest) {
-    if (f == "memcpy" || f == "memmove" || f == "memset") return 8
+    if (f == "memcpy" || f == "memset") return 8
     if (!(f in own) || level > 20) {
         name = f
         unknown(level > 20 ? "recursion" : "it is called and not here")

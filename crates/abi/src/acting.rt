@@ -3,7 +3,7 @@ ghost use mathlib.Core.Path.{_≡_};
 ghost use Rattle.actions.specs.Actions.{lent, request, actionOf};
 ghost use Rattle.state_bytes.specs.Stored.{stateIn};
 ghost use Rattle.calls.specs.Changes.{actionTold};
-ghost use Rattle.calls.specs.Told.{told, Kept};
+ghost use Rattle.calls.specs.Told.{told, RecordsKept};
 
 // Unload is done at once; revert, apply and replace become the job. A refusal for the payload's status or for the stack sets its last result.
 #[no_mangle]
@@ -20,7 +20,7 @@ pub extern "C" fn urddolwy_action(
     ensures { λ r. ⌜ told r (now (records .exit)) (lent (now (arena .exit)) (now (undo .exit)) (now (ids .exit)))
         ≡ actionTold (now (records .entry)) (now («build_id» .entry))
         (lent (now (arena .entry)) (now (undo .entry)) (now (ids .entry))) (request (now (name .entry)) command time) ⌝ }
-    ensures { λ r. ⌜ Kept (now (records .entry))
+    ensures { λ r. ⌜ RecordsKept (now (records .entry))
         (actionOf (stateIn (now (records .entry))) (now («build_id» .entry))
         (lent (now (arena .entry)) (now (undo .entry)) (now (ids .entry))) (request (now (name .entry)) command time) .state)
         (now (records .exit)) ⌝ }

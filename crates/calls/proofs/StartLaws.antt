@@ -1,6 +1,6 @@
 -- Start-up over the records buffer, by what it answered.
 use Prim.Native.Nat.{ℕ}
-use mathlib.Core.Path.{_≡_, refl, sym, ap, subst, _∙_}
+use mathlib.Core.Path.{_≡_, sym, ap, subst, _∙_}
 use mathlib.Core.List.{List}
 use borrow.Author.Tests.{eq-eqb, ne-eqb}
 use lib.ListN.{length, replicate}
@@ -17,7 +17,7 @@ use Rattle.state.specs.declared.state.Called.{Called}
 use Rattle.state.specs.declared.state.State.{State}
 use Rattle.startup.specs.Start.{Lent, configFor, startRules, Started, started, startOf}
 use Rattle.state_bytes.specs.Layout.{recordsSize}
-use Rattle.state_bytes.specs.Stored.{bytesOf, Holds}
+use Rattle.state_bytes.specs.Stored.{bytesOf, HoldsState}
 use Rattle.calls.specs.Changes.{memory, startTold, StartKept}
 use Rattle.calls.specs.Told.{told, invalid}
 
@@ -70,5 +70,5 @@ accepted-state l e pass = accepted-by l (startRules l) e pass
 
 pub accepted-start :
     (l : Lent) (r : Called) {arena undo ids after : List ℕ} {answer : ℕ} → started r arena undo ids ≡ startOf l → r .verdict ≡ Pass →
-    Holds (r .state) after → StartKept answer l after
-accepted-start l r {arena} {undo} {ids} {after} e pass k zero = subst (λ (s : State). Holds s after) (accepted-state l e pass) k
+    HoldsState (r .state) after → StartKept answer l after
+accepted-start l r {arena} {undo} {ids} {after} e pass k zero = subst (λ (s : State). HoldsState s after) (accepted-state l e pass) k

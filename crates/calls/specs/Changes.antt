@@ -1,7 +1,7 @@
 -- The calls that change the state, over the records buffer.
 use Prim.Native.Nat.{ℕ}
 use mathlib.Core.Path.{_≡_}
-use mathlib.Core.Bool.{Bool, true, cond}
+use mathlib.Core.Bool.{true, cond}
 use mathlib.Core.Logic.{_↔_}
 use mathlib.Core.List.{List}
 use lib.Dec.{eqb}
@@ -17,8 +17,8 @@ use Rattle.work.specs.Work as work
 use Rattle.state.specs.State.{stateWith}
 use Rattle.state.specs.declared.state.Called.{Called}
 use Rattle.state_bytes.specs.Layout.{recordsSize}
-use Rattle.state_bytes.specs.Stored.{bytesOf, stateIn, isState, Holds}
-use Rattle.calls.specs.Told.{Told, told, invalid, stored, overRecords, Kept}
+use Rattle.state_bytes.specs.Stored.{bytesOf, stateIn, isState, HoldsState}
+use Rattle.calls.specs.Told.{Told, told, invalid, stored, overRecords, RecordsKept}
 
 -- ---- start-up: what the records hold does not matter, and a refusal leaves them
 
@@ -54,7 +54,7 @@ startTold b l =
 
 -- accepted, the records hold the state in which nothing is loaded
 abbrev pub StartKept : ℕ → start.Lent → List ℕ → Type 0
-StartKept answer l after = answer ≡ 0 → Holds (stateWith (start.configFor l)) after
+StartKept answer l after = answer ≡ 0 → HoldsState (stateWith (start.configFor l)) after
 
 -- ---- upload
 
@@ -72,7 +72,7 @@ pub record Acceptable (b : List ℕ) (l : upload.Lent) (q : upload.Request) : Ty
 -- ignored contents gets the same answer, records and memory
 pub record Uploads (b : List ℕ) (l : upload.Lent) (q : upload.Request) (t : Told upload.Lent) : Type 0 where
   pub equal : t ≡ uploadTold b l q
-  pub kept : Kept b (upload.uploadOf (stateIn b) l q .state) (t .records)
+  pub kept : RecordsKept b (upload.uploadOf (stateIn b) l q .state) (t .records)
   pub exactly : (t .answer ≡ 0) ↔ Acceptable b l q
   pub ignored : (other : List ℕ) → DifferInIgnored (q .file) other → uploadTold b l (upload.request (q .name) (q .list) other) ≡ t
 

@@ -9,7 +9,7 @@ use Rattle.records.specs.declared.refusal.Place.the-variants.{Nowhere}
 use Rattle.records.specs.declared.refusal.Reason.the-variants.{Invalid}
 use Rattle.records.specs.declared.refusal.Verdict.{Verdict}
 use Rattle.state.specs.declared.state.State.{State}
-use Rattle.state_bytes.specs.Stored.{bytesOf, isState, Holds}
+use Rattle.state_bytes.specs.Stored.{bytesOf, isState, HoldsState}
 
 pub record Told (M : Type 0) : Type 0 where
   pub answer : ℕ
@@ -32,5 +32,5 @@ abbrev pub overRecords : {M : Type 0} → List ℕ → M → Told M → Told M
 overRecords b memory call = cond (isState b) call (told invalid b memory)
 
 -- records that were a state's hold the state after the call
-abbrev pub Kept : List ℕ → State → List ℕ → Type 0
-Kept before state after = isState before ≡ true → Holds state after
+abbrev pub RecordsKept : List ℕ → State → List ℕ → Type 0
+RecordsKept before state after = isState before ≡ true → HoldsState state after

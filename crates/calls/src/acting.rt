@@ -3,7 +3,7 @@ ghost use mathlib.Core.Path.{_≡_};
 ghost use Rattle.actions.specs.Actions.{lent, request, actionOf};
 ghost use Rattle.state_bytes.specs.Stored.{stateIn};
 ghost use Rattle.calls.specs.Changes.{actionTold};
-ghost use Rattle.calls.specs.Told.{told, Kept};
+ghost use Rattle.calls.specs.Told.{told, RecordsKept};
 use records::refusal::Place;
 use records::refusal::Reason;
 use records::refusal::Refusal;
@@ -23,7 +23,7 @@ pub fn action(
     ensures { λ r. ⌜ told r (now (records .exit)) (lent (now (arena .exit)) (now (undo .exit)) (now (ids .exit)))
         ≡ actionTold (now (records .entry)) (now («build_id» .entry))
         (lent (now (arena .entry)) (now (undo .entry)) (now (ids .entry))) (request (now (name .entry)) command time) ⌝ }
-    ensures { λ r. ⌜ Kept (now (records .entry))
+    ensures { λ r. ⌜ RecordsKept (now (records .entry))
         (actionOf (stateIn (now (records .entry))) (now («build_id» .entry))
         (lent (now (arena .entry)) (now (undo .entry)) (now (ids .entry))) (request (now (name .entry)) command time) .state)
         (now (records .exit)) ⌝ }

@@ -3,7 +3,8 @@ ghost use mathlib.Core.Path.{_≡_};
 ghost use Rattle.rendezvous.specs.Rendezvous.{reportOf, tickOf};
 ghost use Rattle.state_bytes.specs.Stored.{stateIn};
 ghost use Rattle.calls.specs.Changes.{reportTold, tickTold};
-ghost use Rattle.calls.specs.Told.{told, Kept};
+ghost use Rattle.calls.specs.Told.{told, RecordsKept};
+use in_place::reporting;
 use records::refusal::Place;
 use records::refusal::Reason;
 use records::refusal::Refusal;
@@ -12,29 +13,23 @@ use state_bytes::buffer;
 // The CPU `cpu` is held.
 pub fn report(records: &mut [u8], cpu: u32) -> u64
     ensures { λ r. ⌜ told r (now (records .exit)) tt ≡ reportTold (now (records .entry)) cpu ⌝ }
-    ensures { λ r. ⌜ Kept (now (records .entry)) (reportOf (stateIn (now (records .entry))) cpu .state) (now (records .exit)) ⌝ }
+    ensures { λ r. ⌜ RecordsKept (now (records .entry)) (reportOf (stateIn (now (records .entry))) cpu .state) (now (records .exit)) ⌝ }
 {
     if !buffer::is_state(records) {
         return Refusal::new(Reason::Invalid, Place::Nowhere).code();
     }
-    let called = rendezvous::report(buffer::load(records), cpu);
-    let next = called.state;
-    buffer::store(records, next);
-    let verdict = called.verdict;
+    let verdict = reporting::report(records, cpu);
     verdict.code()
 }
 
 // One tick of the time that a job has to gather the CPUs.
 pub fn tick(records: &mut [u8]) -> u64
     ensures { λ r. ⌜ told r (now (records .exit)) tt ≡ tickTold (now (records .entry)) ⌝ }
-    ensures { λ r. ⌜ Kept (now (records .entry)) (tickOf (stateIn (now (records .entry))) .state) (now (records .exit)) ⌝ }
+    ensures { λ r. ⌜ RecordsKept (now (records .entry)) (tickOf (stateIn (now (records .entry))) .state) (now (records .exit)) ⌝ }
 {
     if !buffer::is_state(records) {
         return Refusal::new(Reason::Invalid, Place::Nowhere).code();
     }
-    let called = rendezvous::tick(buffer::load(records));
-    let next = called.state;
-    buffer::store(records, next);
-    let verdict = called.verdict;
+    let verdict = reporting::tick(records);
     verdict.code()
 }

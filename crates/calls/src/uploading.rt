@@ -1,15 +1,18 @@
 // An upload.
-ghost use mathlib.Core.Path.{_≡_};
 ghost use Rattle.upload.specs.Upload.{lent, request};
 ghost use Rattle.calls.specs.Changes.{Uploads};
 ghost use Rattle.calls.specs.Told.{told};
 use records::refusal::Place;
 use records::refusal::Reason;
 use records::refusal::Refusal;
+use records::refusal::Verdict;
 use state_bytes::buffer;
+use state_bytes::parts;
+use upload::enter;
+use upload::room;
 
 // The payload `file` under `name`, its undefined symbols looked up in `list`. Accepted, the records, the lowest free slot and its id store entry are
-// written; refused, nothing is.
+// written; refused, nothing is. The state is loaded where it is asked, so that it is not held while the payload is prepared.
 pub fn upload(
     records: &mut [u8],
     arena: &mut [u8],
@@ -25,9 +28,18 @@ pub fn upload(
     if !buffer::is_state(records) {
         return Refusal::new(Reason::Invalid, Place::Nowhere).code();
     }
-    let called = upload::upload::upload(buffer::load(records), arena, ids, name, list, file);
-    let next = called.state;
+    let place = room::room_for(buffer::load(records), arena.len(), ids.len(), name, list);
+    let found = place.verdict;
+    if let Verdict::Refuse(r) = found {
+        return r.code();
+    }
+    let config = parts::config(records);
+    let prepared = upload::upload::prepare_in(config, arena, place.slot, list, file);
+    let verdict = prepared.verdict;
+    if let Verdict::Refuse(r) = verdict {
+        return r.code();
+    }
+    let next = enter::enter(buffer::load(records), ids, name, place.slot, prepared);
     buffer::store(records, next);
-    let verdict = called.verdict;
-    verdict.code()
+    0
 }

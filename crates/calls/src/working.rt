@@ -3,7 +3,7 @@ ghost use mathlib.Core.Path.{_≡_};
 ghost use Rattle.work.specs.Work.{lent, workOf};
 ghost use Rattle.state_bytes.specs.Stored.{stateIn};
 ghost use Rattle.calls.specs.Changes.{workTold};
-ghost use Rattle.calls.specs.Told.{told, Kept};
+ghost use Rattle.calls.specs.Told.{told, RecordsKept};
 use records::refusal::Place;
 use records::refusal::Reason;
 use records::refusal::Refusal;
@@ -13,15 +13,12 @@ use state_bytes::buffer;
 pub fn work(records: &mut [u8], text: &mut [u8], undo: &mut [u8]) -> u64
     ensures { λ r. ⌜ told r (now (records .exit)) (lent (now (text .exit)) (now (undo .exit)))
         ≡ workTold (now (records .entry)) (lent (now (text .entry)) (now (undo .entry))) ⌝ }
-    ensures { λ r. ⌜ Kept (now (records .entry))
+    ensures { λ r. ⌜ RecordsKept (now (records .entry))
         (workOf (stateIn (now (records .entry))) (lent (now (text .entry)) (now (undo .entry))) .state) (now (records .exit)) ⌝ }
 {
     if !buffer::is_state(records) {
         return Refusal::new(Reason::Invalid, Place::Nowhere).code();
     }
-    let called = work::work::work(buffer::load(records), text, undo);
-    let next = called.state;
-    buffer::store(records, next);
-    let verdict = called.verdict;
+    let verdict = in_place::working::work(records, text, undo);
     verdict.code()
 }

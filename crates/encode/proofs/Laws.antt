@@ -11,7 +11,7 @@ use lib.ListN.{length, getD, replicate, length-append, length-replicate, replica
 use Rattle.words.specs.Splice.{splice}
 use Rattle.words.specs.Number.{leBytes}
 use Rattle.words.proofs.Number.{length-leBytes}
-use Rattle.words.proofs.Splice.{splice-append, splice-splice, splice-splice-apart, length-splice, splice-whole}
+use Rattle.words.proofs.Splice.{splice-append, splice-splice, splice-splice-apart, length-splice, splice-whole, splice-next}
 use Rattle.records.specs.Limits.{idMax, recordsMax}
 use Rattle.records.specs.Payload.{noEdit}
 use Rattle.records.specs.declared.payload.BuildId.{BuildId}
@@ -20,12 +20,6 @@ use Rattle.machine.specs.Machine.{Machine, editBytes, editMax}
 use Rattle.encode.specs.Encode.{entrySize, editRoom, editEntry, rowOf, rows, editTable, editsSize, summarySize, summaryOf, Fitting}
 
 -- ---- splices
-
--- right behind the one before, whose length is known
-splice-next :
-    {A : Type 0} (s : List A) (at n : ℕ) (new other : List A) → at ≤ length s → length new ≡ n →
-    splice (splice s at new) (at + n) other ≡ splice s at (new ++ other)
-splice-next s at n new other fits e = rw (← e) (splice-append s at new fits other)
 
 -- over the beginning of the one before
 splice-over :

@@ -9,20 +9,18 @@ use Rattle.records.specs.Refusal.{verdictCode}
 use Rattle.records.specs.Verdict.{refusal, decide}
 use Rattle.records.specs.declared.refusal.Place.the-variants.{Nowhere}
 use Rattle.records.specs.declared.refusal.Reason.the-variants.{Invalid}
-use Rattle.records.specs.declared.refusal.Verdict.{Verdict}
-use Rattle.records.specs.declared.refusal.Verdict.the-variants.{Pass, Refuse}
-use Rattle.records.proofs.Numbers.{code-some}
+use Rattle.records.proofs.Numbers.{code-some, code-zero}
 use Rattle.state.specs.State.{stateWith}
 use Rattle.startup.specs.Start.{Lent, configFor, Started, startOf}
 use Rattle.state_bytes.specs.Layout.{recordsSize}
-use Rattle.state_bytes.specs.Stored.{bytesOf, stateIn, isState, Holds}
+use Rattle.state_bytes.specs.Stored.{bytesOf, stateIn, isState, HoldsState}
 use Rattle.calls.specs.Changes.{Memory, memory, startTold, StartKept}
 use Rattle.calls.specs.Told.{Told, told, invalid}
 use Rattle.calls.proofs.StartLaws.{accepted-state}
 use Rattle.model.specs.Model.{opened}
 use Rattle.invariant.specs.Sound.{Sound}
 use Rattle.refinement.specs.Stands.{Loader, Stands}
-use Rattle.sequence.proofs.Start.{startFor, loaderFor, start-stands}
+use Rattle.sequence.proofs.Start.{startFor, start-stands}
 
 -- what a start-up told, by whether the records have their size
 abbrev toldBy : Bool → List ℕ → Lent → Told Memory
@@ -31,11 +29,6 @@ toldBy t b l =
     cond t
     (told (verdictCode (x .answer)) (decide (λ r. b) (bytesOf (x .state)) (x .answer)) (memory (x .arena) (x .undo) (x .ids)))
     (told invalid b (memory (l .arena) (l .undo) (l .ids)))
-
--- 0 is the number of no refusal
-zero-passes : (v : Verdict) → verdictCode v ≡ 0 → v ≡ Pass
-zero-passes Pass e = refl
-zero-passes (Refuse r) e = absurd (code-some r e)
 
 module _ (l : Lent) (after arena undo ids : List ℕ) where
   pub record Begun : Type 0 where
@@ -46,11 +39,11 @@ module _ (l : Lent) (after arena undo ids : List ℕ) where
         (opened (startFor l))
     pub sound : Sound (opened (startFor l))
 
-  begun-by : (b : List ℕ) (t : Bool) → told 0 after (memory arena undo ids) ≡ toldBy t b l → Holds (stateWith (configFor l)) after → Begun
+  begun-by : (b : List ℕ) (t : Bool) → told 0 after (memory arena undo ids) ≡ toldBy t b l → HoldsState (stateWith (configFor l)) after → Begun
   begun-by b false e k = absurd (code-some (refusal Invalid Nowhere) (sym (ap (λ (x : Told Memory). x .answer) e)))
   begun-by b true e k =
       let x : Started = startOf l in
-      let pass = zero-passes (x .answer) (sym (ap (λ (y : Told Memory). y .answer) e)) in
+      let pass = code-zero (x .answer) (sym (ap (λ (y : Told Memory). y .answer) e)) in
       let lent = ap (λ (y : Told Memory). y .memory) e in
       let begun = start-stands l x refl pass in
       let state = accepted-state l refl pass ∙ sym (k .read) in

@@ -27,51 +27,13 @@ use Rattle.invariant.specs.Sound.{Sound}
 use Rattle.invariant.proofs.Facts.{steps-few}
 use Rattle.invariant.proofs.Jobs.{jobs}
 use Rattle.invariant.proofs.Step.{sound-step, sound-after}
-use Rattle.refinement.specs.Stands.{Loader, Stands}
+use Rattle.refinement.specs.Stands.{Stands}
 use Rattle.refinement.proofs.Queries.{id-sizes, top-over}
 use Rattle.sequence.specs.Run as sequence
 use Rattle.sequence.proofs.Sequence.{turn-agrees, matches}
-use Rattle.exported.specs.Calls.{
-  Call,
-  Upload,
-  Get,
-  List-from,
-  Act,
-  Report,
-  Tick,
-  Work,
-  TopId,
-  Reply,
-  Returns,
-  Fills,
-  Fills-list,
-  plain,
-  numberFor,
-  outFor,
-  buffersFor,
-  topPlaceOf,
-  replyFor,
-  repliesFor,
-}
-use Rattle.exported.specs.Claim.{loaderOf, Claimed, EveryExportedSequence}
-use Rattle.exported.specs.Run.{
-  Host,
-  Bytes,
-  Started,
-  by-start,
-  Turn,
-  by-upload,
-  by-get,
-  by-list,
-  by-act,
-  by-report,
-  by-tick,
-  by-work,
-  by-top-id,
-  Run,
-  end,
-  then,
-}
+use Rattle.exported.specs.Calls.{Call, Upload, Work, TopId, Reply, Returns, Fills, Fills-list, plain, numberFor, outFor, buffersFor, topPlaceOf, replyFor, repliesFor}
+use Rattle.exported.specs.Claim.{loaderOf, EveryExportedSequence}
+use Rattle.exported.specs.Run.{Host, Bytes, Started, by-start, Turn, by-upload, by-get, by-list, by-act, by-report, by-tick, by-work, by-top-id, Run, end, then}
 use Rattle.exported.proofs.Begun.{begins}
 use Rattle.exported.proofs.Replies.{told-apart, plainBuffers, get-fills, list-fills, top-fills, place-agrees}
 

@@ -1,6 +1,6 @@
 -- What the exported functions return, by what the calls on the state answered.
 use Prim.Native.Nat.{ℕ, suc}
-use mathlib.Core.Path.{_≡_, refl, sym, ap, _∙_}
+use mathlib.Core.Path.{_≡_, refl, ap, _∙_}
 use mathlib.Core.Bool.{Bool, true, false, cond, _&&_}
 use mathlib.Core.List.{List, [], _∷_}
 use native.Mathlib.Omega.{arith}
@@ -21,10 +21,8 @@ use Rattle.questions.specs.Questions.{Asked, asked, rightBuffers, getSize, gotB
 use Rattle.calls.specs.Told.{Told, told, invalid, stored, overRecords}
 use Rattle.model.specs.Calls as model
 use Rattle.model.specs.Model.{Model}
-use Rattle.invariant.specs.Sound.{Sound}
 use Rattle.refinement.specs.Stands.{Loader, recordOf, Stands}
 use Rattle.refinement.proofs.Lookups.{payload-in, top-slot}
-use Rattle.refinement.proofs.Queries.{id-sizes}
 use Rattle.exported.specs.Calls.{Reply, Fills, Fills-list, topPlaceOver, topPlaceOf}
 
 -- ---- a call that changes the state, on records that are a state's

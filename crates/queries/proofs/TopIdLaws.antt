@@ -1,15 +1,14 @@
 -- The id that is on top: it lies in the id store, and has 1 to 32 bytes.
 use Prim.Native.Nat.{ℕ, _+_, _≤_, _<_}
-use mathlib.Core.Path.{_≡_, refl, sym, ap, _∙_}
+use mathlib.Core.Path.{_≡_, refl}
 use mathlib.Core.Bool.{Bool, true, false, cond}
 use mathlib.Core.List.{List, []}
 use native.Mathlib.Omega.{arith}
 use borrow.Author.Tests.{le-leb, eqb-true, eqb-false}
 use lib.Dec.{eqb}
 use lib.ListN.{length}
-use lib.Seq.{take-length}
 use Rattle.words.specs.Splice.{part}
-use Rattle.words.proofs.Splice.{length-part}
+use Rattle.words.proofs.Splice.{length-part, part-all}
 use Rattle.words.proofs.Tests.{three}
 use Rattle.records.specs.Limits.{idMin, idMax}
 use Rattle.memory.specs.Memory.{slotCount, idAt, idsSize}
@@ -21,11 +20,6 @@ use Rattle.ranges.specs.Ranges.{inRange}
 use Rattle.ranges.proofs.Laws.{InRange, in-range, taken-in-range}
 use Rattle.queries.specs.TopId.{topSlot, topId, idPlace, topPlace, idThere, idSizesOk, topIdOf, HandsOut}
 use Rattle.queries.specs.declared.top_id.IdPlace.{IdPlace}
-
--- all of a list, as a part of it
-part-whole : (l : List ℕ) → part l 0 (length l) ≡ l
-unfolding part
-part-whole l = take-length l
 
 module _ (s : State) where
   -- the payload that was applied last
@@ -91,7 +85,7 @@ module _ (s : State) where
           (t : Bool) →
           idThere (cond t (idPlace 0 0 (s .config .«id_length»)) kept) build-id ids
           ≡ cond t build-id (part ids (idAt (topSlot s)) (payloadIn s (topSlot s) .«id_length»))
-      by-depth true = ap (part build-id 0) (sym (z .id)) ∙ part-whole build-id
+      by-depth true = part-all build-id (s .config .«id_length») (z .id)
       by-depth false = refl
 
   -- what a part says is what the rules say

@@ -1,6 +1,6 @@
 -- Get, list and the top build-id over the records buffer, by what the calls on the state answered.
-use Prim.Native.Nat.{ℕ, _+_, _≤_}
-use mathlib.Core.Path.{_≡_, refl, sym, ap, subst, _∙_}
+use Prim.Native.Nat.{ℕ, _+_}
+use mathlib.Core.Path.{_≡_, sym, ap, subst, _∙_}
 use mathlib.Core.Bool.{true, false}
 use mathlib.Core.List.{List, _++_}
 use native.Mathlib.Omega.{arith}
@@ -10,9 +10,9 @@ use lib.ListN.{length, length-append}
 use Rattle.words.specs.Number.{leBytes}
 use Rattle.words.specs.Splice.{splice}
 use Rattle.words.proofs.Number.{length-leBytes}
-use Rattle.words.proofs.Splice.{splice-append, splice-whole}
+use Rattle.words.proofs.Splice.{splice-next, splice-whole}
 use Rattle.words.proofs.Tests.{both}
-use Rattle.records.specs.Refusal.{refusalCode, verdictCode}
+use Rattle.records.specs.Refusal.{refusalCode}
 use Rattle.records.specs.Verdict.{decide}
 use Rattle.records.specs.declared.refusal.Verdict.{Verdict}
 use Rattle.queries.specs.Get.{getOf}
@@ -23,34 +23,15 @@ use Rattle.listing.specs.List as list
 use Rattle.listing.specs.declared.Listed.{Listed}
 use Rattle.state_bytes.specs.Layout.{recordsSize}
 use Rattle.state_bytes.specs.Stored.{stateIn, isState}
-use Rattle.questions.specs.Questions.{
-  Asked,
-  asked,
-  rightBuffers,
-  getSize,
-  gotBytes,
-  getAsked,
-  listSize,
-  listedBytes,
-  listAsking,
-  ListAsked,
-  listAsked,
-  topSize,
-  placeBytes,
-  topAsked,
-}
+use Rattle.questions.specs.Questions.{Asked, asked, rightBuffers, getSize, gotBytes, getAsked, listSize, listedBytes, listAsking, listAsked, topSize, placeBytes, topAsked}
 use Rattle.calls.specs.Told.{invalid}
-use Rattle.calls.proofs.Laws.{state-length}
+use Rattle.state_bytes.proofs.Laws.{state-length}
 
 -- ---- numbers one behind the other
 
--- right behind the one before
-next : (s : List ℕ) (at n : ℕ) (new other : List ℕ) → at ≤ length s → length new ≡ n → splice (splice s at new) (at + n) other ≡ splice s at (new ++ other)
-next s at n new other fits e = rw (← e) (splice-append s at new fits other)
-
 pub two-laid : (s : List ℕ) (a b : ℕ) → length s ≡ getSize → splice (splice s 0 (leBytes 4 a)) 4 (leBytes 4 b) ≡ leBytes 4 a ++ leBytes 4 b
 two-laid s a b all =
-    next s 0 4 (leBytes 4 a) (leBytes 4 b) (omega arith) (length-leBytes 4 a)
+    splice-next s 0 4 (leBytes 4 a) (leBytes 4 b) (omega arith) (length-leBytes 4 a)
     ∙ splice-whole s (leBytes 4 a ++ leBytes 4 b) (simp (length-append, length-leBytes) (sym all))
 
 pub three-laid :
@@ -58,8 +39,8 @@ pub three-laid :
     splice (splice (splice s 0 (leBytes 4 a)) 4 (leBytes 4 b)) 8 (leBytes 4 c) ≡ leBytes 4 a ++ leBytes 4 b ++ leBytes 4 c
 three-laid s a b c all =
     rw (
-      next s 0 4 (leBytes 4 a) (leBytes 4 b) (omega arith) (length-leBytes 4 a),
-      next s 0 8 (leBytes 4 a ++ leBytes 4 b) (leBytes 4 c) (omega arith) (simp (length-append, length-leBytes)),
+      splice-next s 0 4 (leBytes 4 a) (leBytes 4 b) (omega arith) (length-leBytes 4 a),
+      splice-next s 0 8 (leBytes 4 a ++ leBytes 4 b) (leBytes 4 c) (omega arith) (simp (length-append, length-leBytes)),
     )
     (splice-whole s (leBytes 4 a ++ leBytes 4 b ++ leBytes 4 c) (simp (length-append, length-leBytes) (sym all)))
 

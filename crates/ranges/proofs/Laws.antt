@@ -116,6 +116,15 @@ job-in-range {s} h =
       steps = ltb-true _ _ (parts .4);
     }
 
+-- of a state in range, whether its arrays are whole or not
+pub standing-in-range : {s : State} → inRange s ≡ true → isStanding (s .job) ≡ true → JobInRange s
+unfolding inRange
+standing-in-range {s} h standing =
+    let parts =
+    six (configOk (s .config)) (leb (s .count) slotCount) (every (payloadInRange (s .config)) (loaded s)) (leb (s .depth) (s .count))
+    (every (isTaken s) (stackOf s)) (not (isStanding (s .job)) || jobInRange s) h in
+    job-in-range (rw standing at (parts .5))
+
 pub record InRange (s : State) : Type 0 where
   pub config : configOk (s .config) ≡ true
   pub few : s .count ≤ slotCount
@@ -140,7 +149,7 @@ in-range {s} w h =
           (every-taken (payloadInRange (s .config)) (s .payloads) (s .count) (omega (arith, w .payloads)) (parts .2) i empty g);
       shallow = shallow;
       stack = λ i g. every-taken (isTaken s) (s .stack) (s .depth) (omega (arith, w .stack)) (parts .4) i 0 g;
-      job = λ standing. job-in-range (rw standing at (parts .5));
+      job = standing-in-range h;
     }
 
 -- the payload in a slot that is taken

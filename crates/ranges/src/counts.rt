@@ -27,7 +27,7 @@ fn applied_edits(outline: Outline) -> u64
 }
 
 // How many edits the job takes off.
-fn removed_edits(outline: Outline) -> u64
+pub fn removed_edits(outline: Outline) -> u64
     requires { ⌜ (outline .count ≤ slotCount) × (outline .depth ≤ slotCount) ⌝ }
     ensures { λ r. ⌜ ((s : State) → Outlines outline s → r ≡ length (removing s)) × (r < 2 ^ 36) ⌝ }
 {
@@ -54,31 +54,9 @@ fn laid_edits(outline: Outline) -> u64
 }
 
 // Both.
-pub(crate) fn all_steps(outline: Outline) -> u64
+pub fn all_steps(outline: Outline) -> u64
     requires { ⌜ (outline .count ≤ slotCount) × (outline .depth ≤ slotCount) ⌝ }
     ensures { λ r. ⌜ ((s : State) → Outlines outline s → r ≡ stepCount s) ⌝ }
 {
     removed_edits(outline) + laid_edits(outline)
-}
-
-// The same of a whole state.
-pub fn removal_count(state: State) -> u64
-    requires { ⌜ (state .count ≤ slotCount) × (state .depth ≤ slotCount) ⌝ }
-    ensures { λ r. ⌜ (r ≡ length (removing state)) × (r < 2 ^ 36) ⌝ }
-{
-    removed_edits(outline::outline_of(state))
-}
-
-pub fn laying_count(state: State) -> u64
-    requires { ⌜ state .count ≤ slotCount ⌝ }
-    ensures { λ r. ⌜ (r ≡ length (laying state)) × (r < 2 ^ 32) ⌝ }
-{
-    laid_edits(outline::outline_of(state))
-}
-
-pub fn step_count(state: State) -> u64
-    requires { ⌜ (state .count ≤ slotCount) × (state .depth ≤ slotCount) ⌝ }
-    ensures { λ r. ⌜ r ≡ stepCount state ⌝ }
-{
-    all_steps(outline::outline_of(state))
 }

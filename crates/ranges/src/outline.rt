@@ -9,7 +9,7 @@ use state::state::State;
 use words::bytes::Found;
 
 // `slots` and `edits` are of the loaded payloads: where each is, and how many edits it has. From `action` on it is the job.
-pub(crate) struct Outline {
+pub struct Outline {
     pub count: usize,
     pub slots: [u32; Config::SLOTS],
     pub edits: [u32; Config::SLOTS],
@@ -21,7 +21,7 @@ pub(crate) struct Outline {
     pub steps: u32,
 }
 
-pub(crate) fn outline_of(state: State) -> Outline
+pub fn outline_of(state: State) -> Outline
     requires { ⌜ state .count ≤ slotCount ⌝ }
     ensures { λ r. ⌜ Outlines r state ⌝ }
 {
@@ -48,7 +48,7 @@ pub(crate) fn outline_of(state: State) -> Outline
 }
 
 // The place in the list of the payload in this slot.
-pub(crate) fn with_slot(outline: Outline, slot: u32) -> Found
+pub fn with_slot(outline: Outline, slot: u32) -> Found
     requires { ⌜ outline .count ≤ slotCount ⌝ }
     ensures { λ r. ⌜ ((s : State) → Outlines outline s → r ≡ withSlot s slot) × ((i : ℕ) → r ≡ Found.At i → i < outline .count) ⌝ }
 {
@@ -63,7 +63,7 @@ pub(crate) fn with_slot(outline: Outline, slot: u32) -> Found
 }
 
 // How many edits the payload in this slot has; none where there is no payload.
-pub(crate) fn edits_in(outline: Outline, slot: u32) -> u32
+pub fn edits_in(outline: Outline, slot: u32) -> u32
     requires { ⌜ outline .count ≤ slotCount ⌝ }
     ensures { λ r. ⌜ ((s : State) → Outlines outline s → r ≡ payloadIn s slot .«edit_count») ⌝ }
 {

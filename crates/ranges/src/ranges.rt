@@ -1,5 +1,6 @@
 // Whether every number of a state lies in its range.
 ghost use mathlib.Core.Path.{_≡_};
+ghost use mathlib.Core.Bool.{not, _&&_, _||_};
 ghost use Prim.Native.Nat.{_≤_};
 ghost use lib.ListN.{take};
 ghost use Rattle.words.specs.Find.{every};
@@ -7,7 +8,7 @@ ghost use Rattle.records.specs.Limits.{recordsMax};
 ghost use Rattle.machine.specs.Host.{machineOf};
 ghost use Rattle.memory.specs.Memory.{slotCount};
 ghost use Rattle.state.specs.Find.{isTaken};
-ghost use Rattle.state.specs.State.{stackOf};
+ghost use Rattle.state.specs.State.{isStanding, stackOf};
 ghost use Rattle.ranges.specs.Outline.{Outlines};
 ghost use Rattle.ranges.specs.Ranges.{
   isEditLength,
@@ -122,7 +123,7 @@ fn is_status(status: u32) -> bool
     status == State::APPLIED
 }
 
-fn payload_in_range(config: Config, payload: Payload) -> bool
+pub fn payload_in_range(config: Config, payload: Payload) -> bool
     ensures { λ r. ⌜ r ≡ payloadInRange config payload ⌝ }
 {
     if Config::SLOTS <= payload.slot as usize {
@@ -194,6 +195,20 @@ fn job_in_range(outline: Outline) -> bool
     (outline.steps as u64) < counts::all_steps(outline)
 }
 
+// Whether the stack and the job of every state with this outline are in range.
+pub fn outline_in_range(outline: Outline) -> bool
+    requires { ⌜ (outline .count ≤ slotCount) × (outline .depth ≤ slotCount) ⌝ }
+    ensures { λ r. ⌜ ((s : State) → Outlines outline s → r ≡ (every (isTaken s) (stackOf s) && (not (isStanding (s .job)) || jobInRange s))) ⌝ }
+{
+    if !stack_in_range(outline) {
+        return false;
+    }
+    if outline.action == 0 {
+        return true;
+    }
+    job_in_range(outline)
+}
+
 // Whether every number of the state lies in its range.
 pub fn in_range(state: State) -> bool
     ensures { λ r. ⌜ r ≡ inRange state ⌝ }
@@ -215,12 +230,5 @@ pub fn in_range(state: State) -> bool
     if state.count < state.depth {
         return false;
     }
-    let outline = outline::outline_of(state);
-    if !stack_in_range(outline) {
-        return false;
-    }
-    if outline.action == 0 {
-        return true;
-    }
-    job_in_range(outline)
+    outline_in_range(outline::outline_of(state))
 }

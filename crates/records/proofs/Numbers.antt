@@ -2,9 +2,11 @@
 use Prim.Native.Nat.{_≤_}
 use mathlib.Core.Path.{_≡_, refl}
 use native.Mathlib.Omega.{arith}
-use Rattle.records.specs.Refusal.{numberOf, reasonFor, refusalCode}
+use Rattle.records.specs.Refusal.{numberOf, reasonFor, refusalCode, verdictCode}
 use Rattle.records.specs.declared.refusal.Reason as declared
 use Rattle.records.specs.declared.refusal.Refusal.{Refusal}
+use Rattle.records.specs.declared.refusal.Verdict.{Verdict}
+use Rattle.records.specs.declared.refusal.Verdict.the-variants.{Pass, Refuse}
 
 pub record Numbered (reason : declared.Reason) : Type 0 where
   pub back : reasonFor (numberOf reason) ≡ reason
@@ -26,3 +28,8 @@ numbered declared.the-variants.Unsupported = record { back = refl; some = omega 
 pub code-some : (r : Refusal) → refusalCode r ≡ 0 → ⊥
 unfolding refusalCode
 code-some r e = omega (arith, numbered (r .reason) .some)
+
+-- 0 is the number of no refusal
+pub code-zero : (v : Verdict) → verdictCode v ≡ 0 → v ≡ Pass
+code-zero Pass e = refl
+code-zero (Refuse r) e = absurd (code-some r e)

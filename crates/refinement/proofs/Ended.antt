@@ -23,7 +23,7 @@ use Rattle.memory.specs.Config.{cpusMax}
 use Rattle.memory.specs.Memory.{slotCount}
 use Rattle.state.specs.Change as state
 use Rattle.state.specs.Find as find
-use Rattle.state.specs.State.{revert, apply, replace, checked, applied, noJob, loaded, stackOf, withResult, withStatus, withPayloads, withJob}
+use Rattle.state.specs.State.{revert, apply, replace, checked, applied, noJob, loaded, stackOf, withResult, withStatus, withPayloads, withStack, withJob}
 use Rattle.state.specs.declared.state.State.{State}
 use Rattle.steps.specs.Next as stepping
 use Rattle.model.specs.Memory.{storeOf, textWith, undoWith, padded}
@@ -134,8 +134,8 @@ stackFor s action slot =
 
 stack-set-by :
     (s : State) (t u : Bool) (a b c : ℕ) (x y z : List ℕ) →
-    cond t (stepping.withStack a x s) (cond u (stepping.withStack b y s) (stepping.withStack c z s)) ≡
-    stepping.withStack (cond t a (cond u b c)) (cond t x (cond u y z)) s
+    cond t (withStack a x s) (cond u (withStack b y s) (withStack c z s)) ≡
+    withStack (cond t a (cond u b c)) (cond t x (cond u y z)) s
 stack-set-by s true u a b c x y z = refl
 stack-set-by s false true a b c x y z = refl
 stack-set-by s false false a b c x y z = refl
@@ -206,14 +206,14 @@ module _ {s : State} {l : Model} {j : Job} (k : StateStands s l) (job : JobStand
   abbrev stackNow : List ℕ
   stackNow = stackFor s (j .action) (j .slot)
 
-  stack-set : stepping.stackSet s ≡ stepping.withStack depthNow stackNow s
+  stack-set : stepping.stackSet s ≡ withStack depthNow stackNow s
   unfolding stepping.stackSet
   stack-set =
       ap₂
       (λ (a slot : ℕ).
-      cond (eqb a revert) (stepping.withStack (s .depth - 1) (s .stack) s)
-      (cond (eqb a apply) (stepping.withStack (s .depth + 1) (set (s .stack) (s .depth) slot) s)
-      (stepping.withStack 1 (set (s .stack) 0 slot) s)))
+      cond (eqb a revert) (withStack (s .depth - 1) (s .stack) s)
+      (cond (eqb a apply) (withStack (s .depth + 1) (set (s .stack) (s .depth) slot) s)
+      (withStack 1 (set (s .stack) 0 slot) s)))
       (job .action) (job .slot)
       ∙ stack-set-by s (eqb (j .action) revert) (eqb (j .action) apply) _ _ _ _ _ _
 
@@ -272,15 +272,15 @@ module _ {s : State} {l : Model} {j : Job} (k : StateStands s l) (job : JobStand
       ∙ getD-default (map (λ q. lowered t (recordOf q)) (l .payloads)) m empty (lowered t (recordOf noPayload)) (rw length-map h)
       ∙ List·getD-map (λ q. lowered t (recordOf q)) (l .payloads) m noPayload
 
-  taken-down : (d : ℕ) (st : List ℕ) → stepping.takenDown (stepping.withStack d st s) ≡ withPayloads (all-lowered replaces) (stepping.withStack d st s)
+  taken-down : (d : ℕ) (st : List ℕ) → stepping.takenDown (withStack d st s) ≡ withPayloads (all-lowered replaces) (withStack d st s)
   unfolding stepping.allChecked
   taken-down d st = by-cases replaces
     where
-      by-cases : (t : Bool) → cond t (stepping.allChecked (stepping.withStack d st s)) (stepping.withStack d st s) ≡ withPayloads (all-lowered t) (stepping.withStack d st s)
+      by-cases : (t : Bool) → cond t (stepping.allChecked (withStack d st s)) (withStack d st s) ≡ withPayloads (all-lowered t) (withStack d st s)
       by-cases true = refl
       by-cases false = refl
 
-  slot-lowered : (d : ℕ) (st : List ℕ) → find.withSlot (withPayloads (all-lowered replaces) (stepping.withStack d st s)) (s .job .slot) ≡ model.withSlot l (j .slot)
+  slot-lowered : (d : ℕ) (st : List ℕ) → find.withSlot (withPayloads (all-lowered replaces) (withStack d st s)) (s .job .slot) ≡ model.withSlot l (j .slot)
   unfolding find.withSlot
   slot-lowered d st =
       ap (firstWhere (find.isIn (s .job .slot))) (loaded-lowered replaces)
@@ -314,7 +314,7 @@ module _ {s : State} {l : Model} {j : Job} (k : StateStands s l) (job : JobStand
         ap (λ (x : State). withJob noJob (stepping.statusesSet x)) stack-set
         ∙ ap (λ (x : State). withJob noJob (state.changedIn (stepping.finished (s .job .action)) x (s .job .slot))) (taken-down depthNow stackNow)
         ∙ ap
-        (λ (f : Found). withJob noJob (state.changedFound (stepping.finished (s .job .action)) (withPayloads (all-lowered replaces) (stepping.withStack depthNow stackNow s)) f))
+        (λ (f : Found). withJob noJob (state.changedFound (stepping.finished (s .job .action)) (withPayloads (all-lowered replaces) (withStack depthNow stackNow s)) f))
         (slot-lowered depthNow stackNow ∙ at)
 
     -- and the model

@@ -1,6 +1,10 @@
 // The rendezvous of a job: CPUs report, ticks pass.
 ghost use mathlib.Core.Path.{_≡_};
 ghost use mathlib.Core.Bool.{true};
+ghost use Prim.Native.Nat.{_≤_};
+ghost use lib.ListN.{take};
+ghost use Rattle.words.specs.Find.{every};
+ghost use Rattle.memory.specs.Config.{cpusMax};
 ghost use Rattle.ranges.specs.Ranges.{inRange};
 ghost use Rattle.rendezvous.specs.Rendezvous.{isComplete, reportOf, timedOut, tickOf};
 use records::refusal::Reason;
@@ -10,14 +14,11 @@ use state::state::Called;
 use state::state::Job;
 use state::state::State;
 
-// Whether every CPU is held.
-pub fn is_complete(state: State) -> bool
-    requires { ⌜ inRange state ≡ true ⌝ }
-    ensures { λ r. ⌜ r ≡ isComplete state ⌝ }
+// Whether each of the first `count` CPUs is held.
+pub fn all_held(job: Job, count: usize) -> bool
+    requires { ⌜ count ≤ cpusMax ⌝ }
+    ensures { λ r. ⌜ r ≡ every (λ held. held) (take count (job .held)) ⌝ }
 {
-    let config = state.config;
-    let job = state.job;
-    let count = config.cpus as usize;
     let mut i = 0;
     while i < count {
         if !job.held[i] {
@@ -26,6 +27,16 @@ pub fn is_complete(state: State) -> bool
         i += 1;
     }
     true
+}
+
+// Whether every CPU is held.
+pub fn is_complete(state: State) -> bool
+    requires { ⌜ inRange state ≡ true ⌝ }
+    ensures { λ r. ⌜ r ≡ isComplete state ⌝ }
+{
+    let config = state.config;
+    let job = state.job;
+    all_held(job, config.cpus as usize)
 }
 
 // The CPU `cpu` is held.

@@ -101,6 +101,19 @@ abbrev pub withPayloads : List Payload → State → State
 withPayloads ps s =
     record { config = s .config; version = s .version; count = s .count; payloads = ps; depth = s .depth; stack = s .stack; job = s .job }
 
+-- the applied payloads: how many, and their slots
+abbrev pub withStack : ℕ → List ℕ → State → State
+withStack depth stack s =
+    record {
+      config = s .config;
+      version = s .version;
+      count = s .count;
+      payloads = s .payloads;
+      depth = depth;
+      stack = stack;
+      job = s .job;
+    }
+
 abbrev pub withJob : Job → State → State
 withJob j s =
     record { config = s .config; version = s .version; count = s .count; payloads = s .payloads; depth = s .depth; stack = s .stack; job = j }

@@ -14,7 +14,7 @@ use Rattle.words.specs.Order.{equal}
 use Rattle.words.specs.Scan.{scan}
 use Rattle.words.specs.Splice.{part}
 use Rattle.words.proofs.Number.{length-leBytes}
-use Rattle.words.proofs.Splice.{length-part}
+use Rattle.words.proofs.Splice.{length-part, part-all}
 use Rattle.memory.specs.Config.{cpusMax}
 use Rattle.memory.specs.Memory.{slotCount}
 use Rattle.memory.specs.declared.config.Config.{Config}
@@ -25,7 +25,7 @@ use Rattle.state_bytes.specs.Layout.{editsPlace, payloadSize, countPlace
 use Rattle.state_bytes.specs.Stored.{payloadBytes, payloadAt, configFields, configBytes, configAt, flagByte, isSet, jobFields, jobBytes, heldAt, jobAt, countFields, countBytes, stateFields, stackAt, payloadsAt, bytesOf, stateIn}
 use Rattle.state_bytes.proofs.Fields.{length-joined}
 use Rattle.state_bytes.proofs.Readers.{configWidths, config-widths, jobWidths, job-widths, countWidths, count-widths}
-use Rattle.state_bytes.proofs.Same.{Bytes, part-all, kept, fields-same, length-rows, rows-same}
+use Rattle.state_bytes.proofs.Same.{Bytes, kept, fields-same, length-rows, rows-same}
 use Rattle.state_bytes.proofs.SameRecords.{length-payload, payload-same}
 
 -- ---- a byte for each CPU

@@ -1,8 +1,10 @@
 mod Back
 mod Canonical
 mod Fields
+pub mod Laws
 mod Loads
 mod Readers
+mod Replaced
 mod Rows
 mod Same
 mod SameRecords

@@ -8,7 +8,7 @@ use native.Mathlib.Omega.{arith}
 use borrow.Author.Tests.{eq-eqb, eqb-true, eqb-false}
 use lib.Dec.{eqb}
 use lib.ListN.{length, getD, drop}
-use lib.Seq.{drop-drop, take-add, take-length}
+use lib.Seq.{drop-drop, take-add}
 use Rattle.words.specs.Number.{le, leAt, leBytes}
 use Rattle.words.specs.Order.{equal}
 use Rattle.words.specs.Scan.{scan, each}
@@ -23,10 +23,6 @@ use Rattle.state_bytes.proofs.Fields.{sum, Wide, length-table}
 use Rattle.state_bytes.proofs.Loads.{part-more}
 
 -- ---- parts
-
-pub part-all : {A : Type 0} (s : List A) (n : ℕ) → length s ≡ n → part s 0 n ≡ s
-unfolding part
-part-all s n e = rw (← e) (take-length s)
 
 part-add : (b : List ℕ) (at n m : ℕ) → part b at (n + m) ≡ part b at n ++ part b (at + n) m
 unfolding part

@@ -15,7 +15,7 @@ use Rattle.state.specs.declared.state.State.{State}
 use Rattle.state.proofs.Whole as arrays
 use Rattle.state_bytes.specs.Fields.{chained}
 use Rattle.state_bytes.specs.Layout.{payloadSize, countPlace, recordsSize}
-use Rattle.state_bytes.specs.Stored.{payloadBytes, payloadAt, configBytes, configAt, jobBytes, jobAt, countBytes, stateFields, bytesOf, stackAt, payloadsAt, stateIn, isState, Holds}
+use Rattle.state_bytes.specs.Stored.{payloadBytes, payloadAt, configBytes, configAt, jobBytes, jobAt, countBytes, stateFields, bytesOf, stackAt, payloadsAt, stateIn, isState, HoldsState}
 use Rattle.state_bytes.proofs.Fields.{sum, Local, leAt-local, length-joined, field-at, row-at, length-table}
 use Rattle.state_bytes.proofs.Rows.{rowsAt-local}
 use Rattle.state_bytes.proofs.Readers.{length-payload, payloadAt-local, length-config, configAt-local, length-counts, length-job, jobAt-local}
@@ -24,8 +24,14 @@ use Rattle.state_bytes.proofs.Back.{count-at}
 abbrev pub stateWidths : List ℕ
 stateWidths = countPlace ∷ 20 ∷ (16 + cpusMax) ∷ (4 * slotCount) ∷ (payloadSize * slotCount) ∷ []
 
+pub stackAt-local : Local stackAt (4 * slotCount)
+stackAt-local = rowsAt-local (leAt 4) 4 slotCount (leAt-local 4)
+
+pub payloadsAt-local : Local payloadsAt (payloadSize * slotCount)
+payloadsAt-local = rowsAt-local payloadAt payloadSize slotCount payloadAt-local
+
 module _ (s : State) (w : arrays.Whole s) where
-  length-stack : length (chained (map (leBytes 4) (s .stack))) ≡ 4 * slotCount
+  pub length-stack : length (chained (map (leBytes 4) (s .stack))) ≡ 4 * slotCount
   length-stack = length-table (leBytes 4) 4 (s .stack) 0 (λ i h. length-leBytes 4 _) ∙ rw (w .stack)
 
   length-payloads : length (chained (map payloadBytes (s .payloads))) ≡ payloadSize * slotCount
@@ -40,6 +46,20 @@ module _ (s : State) (w : arrays.Whole s) where
   unfolding bytesOf
   length-state = length-joined (stateFields s) stateWidths state-widths
 
+  -- what a reader reads of part k
+  pub row :
+      {A : Type 0} (reader : List ℕ → ℕ → A) (k : ℕ) → Local reader (getD stateWidths k 0) →
+      reader (bytesOf s) (sum (take k stateWidths)) ≡ reader (getD (stateFields s) k []) 0
+  unfolding bytesOf
+  row = row-at (stateFields s) stateWidths state-widths
+
+  -- the counts and the version, within their part
+  counted : (n i : ℕ) → i + n ≤ 20 → leAt n (bytesOf s) (countPlace + i) ≡ leAt n (countBytes s) i
+  unfolding bytesOf
+  counted n i h =
+      sym (leAt-local n (chained (stateFields s)) countPlace 20 i h)
+      ∙ ap (λ (l : List ℕ). leAt n l i) (field-at (stateFields s) stateWidths state-widths 1)
+
 -- its arrays have their lengths, the counts fit, and each part is read back
 pub record StateFits (s : State) : Type 0 where
   pub whole : arrays.Whole s
@@ -52,41 +72,29 @@ pub record StateFits (s : State) : Type 0 where
   pub payloads : payloadsAt (chained (map payloadBytes (s .payloads))) 0 ≡ s .payloads
 
 module _ (s : State) (fits : StateFits s) where
-  -- what a reader reads of part k
-  row :
-      {A : Type 0} (reader : List ℕ → ℕ → A) (k : ℕ) → Local reader (getD stateWidths k 0) →
-      reader (bytesOf s) (sum (take k stateWidths)) ≡ reader (getD (stateFields s) k []) 0
-  unfolding bytesOf
-  row = row-at (stateFields s) stateWidths (state-widths s (fits .whole))
-
-  -- the counts and the version, within their part
-  counted : (n i : ℕ) → i + n ≤ 20 → leAt n (bytesOf s) (countPlace + i) ≡ leAt n (countBytes s) i
-  unfolding bytesOf
-  counted n i h =
-      sym (leAt-local n (chained (stateFields s)) countPlace 20 i h)
-      ∙ ap (λ (l : List ℕ). leAt n l i) (field-at (stateFields s) stateWidths (state-widths s (fits .whole)) 1)
-
   pub state-back : stateIn (bytesOf s) ≡ s
   unfolding stateIn
   state-back =
+      let w = fits .whole in
+      let number = counted s w in
       rw (
-        row configAt 0 configAt-local,
+        row s w configAt 0 configAt-local,
         fits .config,
-        counted 4 16 (omega arith),
+        number 4 16 (omega arith),
         count-at s 2 4 (s .version) refl refl (fits .version),
-        counted 8 0 (omega arith),
+        number 8 0 (omega arith),
         count-at s 0 8 (s .count) refl refl (fits .count),
-        row payloadsAt 4 (rowsAt-local payloadAt payloadSize slotCount payloadAt-local),
+        row s w payloadsAt 4 payloadsAt-local,
         fits .payloads,
-        counted 8 8 (omega arith),
+        number 8 8 (omega arith),
         count-at s 1 8 (s .depth) refl refl (fits .depth),
-        row stackAt 3 (rowsAt-local (leAt 4) 4 slotCount (leAt-local 4)),
+        row s w stackAt 3 stackAt-local,
         fits .stack,
-        row jobAt 2 jobAt-local,
+        row s w jobAt 2 jobAt-local,
         fits .job,
       )
 
-  pub holds : (b : List ℕ) → b ≡ bytesOf s → Holds s b
+  pub holds : (b : List ℕ) → b ≡ bytesOf s → HoldsState s b
   unfolding isState
   holds b told =
       record {

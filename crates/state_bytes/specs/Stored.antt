@@ -1,5 +1,5 @@
 -- The state as the bytes of the records buffer, and the state that such bytes hold.
-use Prim.Native.Nat.{ℕ, _+_, _*_}
+use Prim.Native.Nat.{ℕ, _+_}
 use mathlib.Core.Path.{_≡_}
 use mathlib.Core.Bool.{Bool, true, false, cond, _&&_}
 use mathlib.Core.List.{List, [], _∷_, _++_, map}
@@ -21,18 +21,7 @@ use Rattle.memory.specs.declared.config.Config.{Config}
 use Rattle.state.specs.declared.state.Job.{Job}
 use Rattle.state.specs.declared.state.State.{State}
 use Rattle.state_bytes.specs.Fields.{chained, rowsAt}
-use Rattle.state_bytes.specs.Layout.{
-  editSize,
-  dependencyPlace,
-  editCountPlace,
-  editsPlace,
-  payloadSize,
-  countPlace,
-  jobPlace,
-  stackPlace,
-  payloadsPlace,
-  recordsSize,
-}
+use Rattle.state_bytes.specs.Layout.{editSize, dependencyPlace, editCountPlace, editsPlace, payloadSize, countPlace, jobPlace, stackPlace, payloadsPlace, recordsSize}
 
 -- ---- an edit
 
@@ -206,7 +195,7 @@ unfoldable pub isState : List ℕ → Bool
 isState b = eqb (length b) recordsSize && equal (bytesOf (stateIn b)) b
 
 -- the buffer holds the state, whole: its bytes are the state's, and read back they give it
-pub record Holds (s : State) (b : List ℕ) : Type 0 where
+pub record HoldsState (s : State) (b : List ℕ) : Type 0 where
   pub bytes : b ≡ bytesOf s
   pub read : stateIn b ≡ s
   pub whole : isState b ≡ true

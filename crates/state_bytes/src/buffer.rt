@@ -2,7 +2,7 @@
 ghost use mathlib.Core.Path.{_≡_};
 ghost use lib.ListN.{length};
 ghost use Rattle.state_bytes.specs.Layout.{recordsSize};
-ghost use Rattle.state_bytes.specs.Stored.{stateIn, isState, Holds};
+ghost use Rattle.state_bytes.specs.Stored.{stateIn, isState, HoldsState};
 use super::head;
 use super::layout;
 use super::numbers;
@@ -55,7 +55,7 @@ pub fn load(b: &[u8]) -> State
 // The state's bytes over the buffer; read back, they give the state.
 pub fn store(b: &mut [u8], state: State)
     requires { ⌜ length (now b) ≡ recordsSize ⌝ }
-    ensures { λ r. ⌜ Holds state (now (b .exit)) ⌝ }
+    ensures { λ r. ⌜ HoldsState state (now (b .exit)) ⌝ }
 {
     let config = state.config;
     let job = state.job;

@@ -4,4 +4,5 @@ pub(crate) mod edits;
 pub(crate) mod head;
 pub(crate) mod layout;
 pub(crate) mod numbers;
+pub mod parts;
 pub(crate) mod payloads;

@@ -39,7 +39,7 @@ fn load_dependency(b: &[u8], at: usize) -> BuildId
     BuildId { bytes, length }
 }
 
-fn load_payload(b: &[u8], at: usize) -> Payload
+pub(crate) fn load_payload(b: &[u8], at: usize) -> Payload
     requires { ⌜ at + payloadSize ≤ length (now b) ⌝ }
     ensures { λ r. ⌜ r ≡ payloadAt (now (b .entry)) at ⌝ }
 {
@@ -100,7 +100,7 @@ fn store_numbers(b: &mut [u8], at: usize, payload: Payload)
 }
 
 // What is stored is read back.
-fn store_payload(b: &mut [u8], at: usize, payload: Payload)
+pub(crate) fn store_payload(b: &mut [u8], at: usize, payload: Payload)
     requires { ⌜ at + payloadSize ≤ length (now b) ⌝ }
     ensures { λ r. ⌜ now (b .exit) ≡ splice (now (b .entry)) at (payloadBytes payload) ⌝ }
     ensures { λ r. ⌜ (length (payloadBytes payload) ≡ payloadSize) × (payloadAt (payloadBytes payload) 0 ≡ payload) ⌝ }

@@ -34,13 +34,18 @@ changed-twice f g s i h =
     rw (getD-set-same (s .payloads) i once empty h) (set-set (s .payloads) i once (g once)) in
     ap (λ (ps : List Payload). withPayloads ps s) both
 
--- the stack's change leaves the list of payloads
-counts-if :
-    (r a : Bool) (s t u v : State) → t .count ≡ s .count → u .count ≡ s .count → v .count ≡ s .count → cond r t (cond a u v) .count ≡ s .count
-counts-if true a s t u v e f g = e
-counts-if false true s t u v e f g = f
-counts-if false false s t u v e f g = g
+-- what the stack's change leaves as it was
+part-if :
+    {A : Type 0} (part : State → A) (r a : Bool) (s t u v : State) → part t ≡ part s → part u ≡ part s → part v ≡ part s →
+    part (cond r t (cond a u v)) ≡ part s
+part-if part true a s t u v e f g = e
+part-if part false true s t u v e f g = f
+part-if part false false s t u v e f g = g
 
 pub stack-counts : (s : State) → stackSet s .count ≡ s .count
 unfolding stackSet
-stack-counts s = counts-if (eqb (s .job .action) revert) (eqb (s .job .action) apply) s _ _ _ refl refl refl
+stack-counts s = part-if (λ (t : State). t .count) (eqb (s .job .action) revert) (eqb (s .job .action) apply) s _ _ _ refl refl refl
+
+pub stack-job : (s : State) → stackSet s .job ≡ s .job
+unfolding stackSet
+stack-job s = part-if (λ (t : State). t .job) (eqb (s .job .action) revert) (eqb (s .job .action) apply) s _ _ _ refl refl refl

@@ -1,6 +1,6 @@
 -- A job's steps one by one: those of one payload, of the payloads of the stack from the newest on, and the removals before the layings.
 use Prim.Native.Nat.{ℕ, zero, suc, _+_, _*_, _-_, _≤_, _<_}
-use mathlib.Core.Path.{_≡_, refl, sym, ap, subst, subst⁻¹, _∙_}
+use mathlib.Core.Path.{_≡_, refl, sym, ap, _∙_}
 use mathlib.Core.Bool.{Bool, true, false, cond, _||_}
 use mathlib.Core.List.{List, [], _∷_, _++_, reverse, reverse-append}
 use native.Mathlib.Nat.{zero-add}
@@ -18,7 +18,7 @@ use Rattle.state.specs.State.{revert, apply, replace, stackOf}
 use Rattle.state.specs.Steps.{stepFor, layings, removals, removalsIn, removing, laying, stepCount}
 use Rattle.state.specs.declared.state.State.{State}
 use Rattle.state.specs.declared.steps.Step.{Step}
-use Rattle.state.proofs.StepLaws.{length-layings, length-removals}
+use Rattle.state.proofs.StepLaws.{length-layings, length-removals, length-removals-none}
 use Rattle.state.proofs.Whole.{Whole}
 use Rattle.ranges.proofs.Laws.{PayloadInRange, JobInRange, InRange, taken-in-range}
 use Rattle.steps.specs.Next.{noStep, stepNow}
@@ -26,10 +26,10 @@ use Rattle.steps.specs.Next.{noStep, stepNow}
 -- ---- two lists, one after the other
 
 module _ (a b : List Step) (k : ℕ) where
-  pub of-first : k < length a → getD (a ++ b) k noStep ≡ getD a k noStep
+  of-first : k < length a → getD (a ++ b) k noStep ≡ getD a k noStep
   of-first h = List·getD-append a b noStep k h
 
-  pub of-second : (n : ℕ) → length a ≡ n → n ≤ k → getD (a ++ b) k noStep ≡ getD b (k - n) noStep
+  of-second : (n : ℕ) → length a ≡ n → n ≤ k → getD (a ++ b) k noStep ≡ getD b (k - n) noStep
   of-second n e h =
       let place : k ≡ length a + (k - n) = omega arith in
       ap (λ (i : ℕ). getD (a ++ b) i noStep) place ∙ getD-append-add a b (k - n) noStep
@@ -37,11 +37,11 @@ module _ (a b : List Step) (k : ℕ) where
 -- ---- one payload
 
 module _ (p : Payload) (k : ℕ) (below : k < p .«edit_count») where
-  pub laying-step : stepFor true p k ≡ getD (layings p) k noStep
+  laying-step : stepFor true p k ≡ getD (layings p) k noStep
   unfolding layings
   laying-step = sym (getD-each (stepFor true p) 0 (p .«edit_count») k noStep below ∙ ap (stepFor true p) (zero-add k))
 
-  pub removal-step : stepFor false p (p .«edit_count» - 1 - k) ≡ getD (removals p) k noStep
+  removal-step : stepFor false p (p .«edit_count» - 1 - k) ≡ getD (removals p) k noStep
   unfolding removals
   removal-step =
       let back : ℕ → Step = λ j. stepFor false p (p .«edit_count» - 1 - j) in
@@ -50,73 +50,102 @@ module _ (p : Payload) (k : ℕ) (below : k < p .«edit_count») where
 -- ---- the stack, the newest payload first
 
 module _ (s : State) where
-  pub newest :
-      (i : ℕ) → 0 < i → i ≤ length (s .stack) →
-      removalsIn s (reverse (take i (s .stack))) ≡ removals (payloadIn s (getD (s .stack) (i - 1) 0)) ++ removalsIn s (reverse (take (i - 1) (s .stack)))
-  unfolding removalsIn
-  newest (suc i) h g =
-      let here : suc i - 1 ≡ i = omega arith in
-      rw (here, take-suc (s .stack) i 0 g, reverse-append (take i (s .stack)) (getD (s .stack) i 0 ∷ []))
+  -- payload i of the stack, and the removals of the first i
+  abbrev pub stacked : ℕ → Payload
+  stacked i = payloadIn s (getD (s .stack) i 0)
 
-  pub no-removals : removalsIn s [] ≡ []
-  unfolding removalsIn
-  no-removals = refl
+  abbrev pub stackedIn : ℕ → List Step
+  stackedIn i = removalsIn s (reverse (take i (s .stack)))
+
+  pub none-stacked : length (stackedIn 0) ≡ 0
+  none-stacked = length-removals-none s
+
+  module _ (i : ℕ) (deep : i < length (s .stack)) where
+    one-more : stackedIn (suc i) ≡ removals (stacked i) ++ stackedIn i
+    unfolding removalsIn
+    one-more = rw (take-suc (s .stack) i 0 deep, reverse-append (take i (s .stack)) (getD (s .stack) i 0 ∷ []))
+
+    pub length-stacked : length (stackedIn (suc i)) ≡ stacked i .«edit_count» + length (stackedIn i)
+    length-stacked = rw (one-more, length-append, length-removals (stacked i))
+
+    -- the newest payload's, or an older one's
+    pub newest-step :
+        (k : ℕ) → k < stacked i .«edit_count» →
+        stepFor false (stacked i) (stacked i .«edit_count» - 1 - k) ≡ getD (stackedIn (suc i)) k noStep
+    newest-step k below =
+        let inside : k < length (removals (stacked i)) = rw (length-removals (stacked i)) below in
+        removal-step (stacked i) k below
+        ∙ sym (ap (λ (l : List Step). getD l k noStep) one-more ∙ of-first (removals (stacked i)) (stackedIn i) k inside)
+
+    pub older-step :
+        (k : ℕ) → stacked i .«edit_count» ≤ k → getD (stackedIn (suc i)) k noStep ≡ getD (stackedIn i) (k - stacked i .«edit_count») noStep
+    older-step k past =
+        ap (λ (l : List Step). getD l k noStep) one-more ∙ of-second (removals (stacked i)) (stackedIn i) k _ (length-removals (stacked i)) past
 
 -- ---- the job's next step
 
 module _ (s : State) where
-  pub count-steps : stepCount s ≡ length (removing s) + length (laying s)
-  count-steps = length-append (removing s) (laying s)
-
-module _ {s : State} (j : JobInRange s) where
-  abbrev pub its : Payload
+  abbrev its : Payload
   its = payloadIn s (s .job .slot)
 
+  count-steps : stepCount s ≡ length (removing s) + length (laying s)
+  count-steps = length-append (removing s) (laying s)
+
   -- past the removals, it lays the edits of its payload
-  lays-if : (t : Bool) → (eqb (s .job .action) apply || eqb (s .job .action) replace) ≡ t → length (removing s) ≤ s .job .steps → laying s ≡ layings its
+  lays-if :
+      (t : Bool) → (eqb (s .job .action) apply || eqb (s .job .action) replace) ≡ t → s .job .steps < stepCount s →
+      length (removing s) ≤ s .job .steps → laying s ≡ layings its
   unfolding laying
-  lays-if true e h = rw e
-  lays-if false e h =
+  lays-if true e steps h = rw e
+  lays-if false e steps h =
       let none : length (laying s) ≡ 0 = rw e in
-      absurd (omega (arith, j .steps, count-steps s))
+      absurd (omega (arith, steps, count-steps))
 
   pub laying-next :
-      length (removing s) ≤ s .job .steps →
-      let k = s .job .steps - length (removing s) in (k < its .«edit_count») × (stepNow s ≡ getD (layings its) k noStep)
+      s .job .steps < stepCount s → length (removing s) ≤ s .job .steps →
+      let k = s .job .steps - length (removing s) in (k < its .«edit_count») × (stepFor true its k ≡ stepNow s)
   unfolding stepNow
-  laying-next h =
-      let all : laying s ≡ layings its = lays-if _ refl h in
-      let many : length (laying s) ≡ its .«edit_count» = rw all (length-layings its) in (
-        omega (arith, j .steps, count-steps s, many),
-        of-second (removing s) (laying s) (s .job .steps) _ refl h ∙ rw all,
-      )
+  laying-next steps h =
+      let k = s .job .steps - length (removing s) in
+      let all : laying s ≡ layings its = lays-if _ refl steps h in
+      let many : length (laying s) ≡ its .«edit_count» = rw all (length-layings its) in
+      let below : k < its .«edit_count» = omega (arith, steps, count-steps, many) in
+      (below, laying-step its k below ∙ sym (of-second (removing s) (laying s) (s .job .steps) _ refl h ∙ rw all))
 
   -- before, a revert takes off those of its payload, and a replace those of all applied ones
   pub reverting-next :
       eqb (s .job .action) revert ≡ true → s .job .steps < length (removing s) →
-      (s .job .steps < its .«edit_count») × (stepNow s ≡ getD (removals its) (s .job .steps) noStep)
+      let k = length (removing s) - 1 - s .job .steps in (k < its .«edit_count») × (stepFor false its k ≡ stepNow s)
   unfolding stepNow removing
   reverting-next e h =
       let all : removing s ≡ removals its = rw e in
       let many : length (removing s) ≡ its .«edit_count» = rw all (length-removals its) in
-      (omega (arith, many), of-first (removing s) (laying s) (s .job .steps) h ∙ rw all)
+      let below : s .job .steps < its .«edit_count» = omega (arith, many) in
+      let back : length (removing s) - 1 - s .job .steps ≡ its .«edit_count» - 1 - s .job .steps = omega (arith, many) in (
+        omega (arith, many),
+        ap (stepFor false its) back
+            ∙ removal-step its (s .job .steps) below
+            ∙ sym (of-first (removing s) (laying s) (s .job .steps) h ∙ rw all),
+      )
 
   replaces-if :
       (t : Bool) → eqb (s .job .action) replace ≡ t → eqb (s .job .action) revert ≡ false → s .job .steps < length (removing s) →
-      removing s ≡ removalsIn s (reverse (stackOf s))
+      removing s ≡ stackedIn s (s .depth)
   unfolding removing
   replaces-if true e f h = rw (f, e)
   replaces-if false e f h =
       let none : length (removing s) ≡ 0 = rw (f, e) in
       absurd (omega (arith, none))
 
+  pub replacing :
+      eqb (s .job .action) revert ≡ false → s .job .steps < length (removing s) → removing s ≡ removalsIn s (reverse (stackOf s))
+  replacing f h = replaces-if _ refl f h
+
   pub replacing-next :
-      eqb (s .job .action) revert ≡ false → s .job .steps < length (removing s) →
-      let all = removalsIn s (reverse (stackOf s)) in (s .job .steps < length all) × (stepNow s ≡ getD all (s .job .steps) noStep)
+      removing s ≡ removalsIn s (reverse (stackOf s)) → s .job .steps < length (removing s) →
+      (s .job .steps < length (stackedIn s (s .depth))) × (getD (stackedIn s (s .depth)) (s .job .steps) noStep ≡ stepNow s)
   unfolding stepNow
-  replacing-next f h =
-      let all : removing s ≡ removalsIn s (reverse (stackOf s)) = replaces-if _ refl f h in
-      (rw all at h, of-first (removing s) (laying s) (s .job .steps) h ∙ rw all)
+  replacing-next all h = (rw all at h, sym (of-first (removing s) (laying s) (s .job .steps) h ∙ rw all))
 
 -- ---- how many steps, and of what records, in a state whose numbers are in their ranges
 
@@ -129,85 +158,55 @@ pub record OfRecord (s : State) (k : Step) : Type 0 where
   pub ranged : PayloadInRange (s .config) payload
   pub below : number < payload .«edit_count»
 
-module _ {s : State} {p : Payload} (ranged : PayloadInRange (s .config) p) (k : ℕ) (below : k < p .«edit_count») where
-  laying-of-record : OfRecord s (getD (layings p) k noStep)
-  laying-of-record = record { lays = true; payload = p; number = k; same = sym (laying-step p k below); ranged = ranged; below = below }
-
-  removal-of-record : OfRecord s (getD (removals p) k noStep)
-  removal-of-record =
-      record {
-        lays = false;
-        payload = p;
-        number = p .«edit_count» - 1 - k;
-        same = sym (removal-step p k below);
-        ranged = ranged;
-        below = omega arith;
-      }
-
 module _ {s : State} (w : Whole s) (r : InRange s) where
-  abbrev stackedIn : ℕ → List Step
-  stackedIn i = removalsIn s (reverse (take i (s .stack)))
+  deep : (i : ℕ) → i < s .depth → i < length (s .stack)
+  deep i h = omega (arith, r .few, r .shallow, w .stack)
 
-  applied-payload : (i : ℕ) → i < s .depth → PayloadInRange (s .config) (payloadIn s (getD (s .stack) i 0))
+  applied-payload : (i : ℕ) → i < s .depth → PayloadInRange (s .config) (stacked s i)
   applied-payload i h = taken-in-range r _ (r .stack i h) .0
 
-  one-more :
-      (i : ℕ) → i < s .depth → stackedIn (suc i) ≡ removals (payloadIn s (getD (s .stack) i 0)) ++ stackedIn i
-  one-more i h =
-      let here : suc i - 1 ≡ i = omega arith in
-      let deep : suc i ≤ length (s .stack) = omega (arith, r .few, r .shallow, w .stack) in
-      rw here at (newest s (suc i) (omega arith) deep)
+  stacked-few : (i : ℕ) → i ≤ s .depth → length (stackedIn s i) ≤ recordsMax * i
+  stacked-few zero h = rw (none-stacked s) (omega arith)
+  stacked-few (suc i) h = rw (length-stacked s i (deep i h)) (omega (arith, stacked-few i (omega arith), applied-payload i h .edits-max))
 
-  stacked-few : (i : ℕ) → i ≤ s .depth → length (stackedIn i) ≤ recordsMax * i
-  stacked-few zero h = rw (no-removals s) (omega arith)
-  stacked-few (suc i) h =
-      let p = payloadIn s (getD (s .stack) i 0) in
-      rw (one-more i h, length-append, length-removals p)
-      (omega (arith, stacked-few i (omega arith), applied-payload i h .edits-max))
-
-  -- the newest payload's, or an older one's
   either-record :
-      (i k : ℕ) (h : i < s .depth) (t : Bool) → ltb k (payloadIn s (getD (s .stack) i 0) .«edit_count») ≡ t →
-      k < length (removals (payloadIn s (getD (s .stack) i 0)) ++ stackedIn i) →
-      ((k : ℕ) → k < length (stackedIn i) → OfRecord s (getD (stackedIn i) k noStep)) →
-      OfRecord s (getD (removals (payloadIn s (getD (s .stack) i 0)) ++ stackedIn i) k noStep)
+      (i k : ℕ) (h : i < s .depth) (t : Bool) → ltb k (stacked s i .«edit_count») ≡ t → k < length (stackedIn s (suc i)) →
+      ((k : ℕ) → k < length (stackedIn s i) → OfRecord s (getD (stackedIn s i) k noStep)) → OfRecord s (getD (stackedIn s (suc i)) k noStep)
   either-record i k h true e g older =
-      let p = payloadIn s (getD (s .stack) i 0) in
-      let here : k < p .«edit_count» = ltb-true _ _ e in
-      rw (of-first (removals p) (stackedIn i) k (rw (length-removals p) here)) (removal-of-record (applied-payload i h) k here)
+      let here : k < stacked s i .«edit_count» = ltb-true _ _ e in
+      record {
+        lays = false;
+        payload = stacked s i;
+        number = stacked s i .«edit_count» - 1 - k;
+        same = sym (newest-step s i (deep i h) k here);
+        ranged = applied-payload i h;
+        below = omega arith;
+      }
   either-record i k h false e g older =
-      let p = payloadIn s (getD (s .stack) i 0) in
-      let past : p .«edit_count» ≤ k = ltb-false _ _ e in
-      let all : length (removals p ++ stackedIn i) ≡ p .«edit_count» + length (stackedIn i) = rw (length-append, length-removals p) in
-      rw (of-second (removals p) (stackedIn i) k _ (length-removals p) past) (older (k - p .«edit_count») (omega (arith, all)))
+      let past : stacked s i .«edit_count» ≤ k = ltb-false _ _ e in
+      rw (older-step s i (deep i h) k past) (older (k - stacked s i .«edit_count») (omega (arith, length-stacked s i (deep i h))))
 
-  stacked-record : (i : ℕ) → i ≤ s .depth → (k : ℕ) → k < length (stackedIn i) → OfRecord s (getD (stackedIn i) k noStep)
-  stacked-record zero h k g =
-      let none : length (stackedIn zero) ≡ 0 = rw (no-removals s) in
-      absurd (omega arith)
-  stacked-record (suc i) h k g =
-      let more : k < length (removals (payloadIn s (getD (s .stack) i 0)) ++ stackedIn i) = subst (λ (l : List Step). k < length l) (one-more i h) g in
-      subst⁻¹ (λ (l : List Step). OfRecord s (getD l k noStep)) (one-more i h)
-      (either-record i k h (ltb k (payloadIn s (getD (s .stack) i 0) .«edit_count»)) refl more (stacked-record i (omega arith)))
+  stacked-record : (i : ℕ) → i ≤ s .depth → (k : ℕ) → k < length (stackedIn s i) → OfRecord s (getD (stackedIn s i) k noStep)
+  stacked-record zero h k g = absurd (omega (arith, none-stacked s))
+  stacked-record (suc i) h k g = either-record i k h (ltb k (stacked s i .«edit_count»)) refl g (stacked-record i (omega arith))
 
   module _ (j : JobInRange s) where
-    its-payload : PayloadInRange (s .config) (its j)
+    its-payload : PayloadInRange (s .config) (its s)
     its-payload = taken-in-range r _ (j .loaded) .0
 
-    next-if-early :
-        (t : Bool) → eqb (s .job .action) revert ≡ t → s .job .steps < length (removing s) → OfRecord s (stepNow s)
+    next-if-early : (t : Bool) → eqb (s .job .action) revert ≡ t → s .job .steps < length (removing s) → OfRecord s (stepNow s)
     next-if-early true e h =
-        let n = reverting-next j e h in
-        rw (n .1) (removal-of-record its-payload (s .job .steps) (n .0))
+        let n = reverting-next s e h in
+        record { lays = false; payload = its s; number = _; same = sym (n .1); ranged = its-payload; below = n .0 }
     next-if-early false e h =
-        let n = replacing-next j e h in
-        rw (n .1) (stacked-record (s .depth) (omega arith) (s .job .steps) (n .0))
+        let n = replacing-next s (replacing s e h) h in
+        rw (sym (n .1)) (stacked-record (s .depth) (omega arith) (s .job .steps) (n .0))
 
     next-if : (t : Bool) → ltb (s .job .steps) (length (removing s)) ≡ t → OfRecord s (stepNow s)
     next-if true e = next-if-early _ refl (ltb-true _ _ e)
     next-if false e =
-        let n = laying-next j (ltb-false _ _ e) in
-        rw (n .1) (laying-of-record its-payload _ (n .0))
+        let n = laying-next s (j .steps) (ltb-false _ _ e) in
+        record { lays = true; payload = its s; number = _; same = sym (n .1); ranged = its-payload; below = n .0 }
 
     -- the job's next step is of a record
     pub next-of-record : OfRecord s (stepNow s)
@@ -221,15 +220,15 @@ module _ {s : State} (w : Whole s) (r : InRange s) where
     removing-few : length (removing s) ≤ recordsMax * slotCount
     unfolding removing
     removing-few =
-        let one : length (removals (its j)) ≤ recordsMax * slotCount = rw (length-removals (its j)) (omega (arith, its-payload .edits-max)) in
-        let all : length (stackedIn (s .depth)) ≤ recordsMax * slotCount =
+        let one : length (removals (its s)) ≤ recordsMax * slotCount = rw (length-removals (its s)) (omega (arith, its-payload .edits-max)) in
+        let all : length (stackedIn s (s .depth)) ≤ recordsMax * slotCount =
         omega (arith, stacked-few (s .depth) (omega arith), r .few, r .shallow) in
         few-if (eqb (s .job .action) revert) _ _ _ one (few-if (eqb (s .job .action) replace) _ [] _ all (omega arith))
 
     laying-few : length (laying s) ≤ recordsMax
     unfolding laying
     laying-few =
-        few-if (eqb (s .job .action) apply || eqb (s .job .action) replace) _ [] _ (rw (length-layings (its j)) (its-payload .edits-max)) (omega arith)
+        few-if (eqb (s .job .action) apply || eqb (s .job .action) replace) _ [] _ (rw (length-layings (its s)) (its-payload .edits-max)) (omega arith)
 
     pub steps-few : stepCount s ≤ recordsMax * (slotCount + 1)
     steps-few = omega (arith, count-steps s, removing-few, laying-few)

@@ -1,17 +1,20 @@
 -- The edit that a job's next work step makes, and the state after it.
-use Prim.Native.Nat.{ℕ, _+_, _-_}
+use Prim.Native.Nat.{ℕ, _+_, _-_, _<_}
+use mathlib.Core.Path.{_≡_}
 use mathlib.Core.Bool.{false, cond}
-use mathlib.Core.List.{List, map, _++_}
+use mathlib.Core.List.{map, _++_}
 use lib.Dec.{eqb}
 use lib.ListN.{getD, set, take, drop}
 use Rattle.records.specs.Payload.{noEdit}
 use Rattle.records.specs.declared.payload.Payload.{Payload}
 use Rattle.state.specs.Change.{changedIn}
-use Rattle.state.specs.State.{revert, apply, replace, checked, applied, noJob, withResult, withStatus, withPayloads, withJob}
-use Rattle.state.specs.Steps.{stepsOf, stepCount}
+use Rattle.state.specs.Find.{payloadAt}
+use Rattle.state.specs.State.{revert, apply, replace, checked, applied, noJob, withResult, withStatus, withPayloads, withStack, withJob}
+use Rattle.state.specs.Steps.{stepFor, stepsOf, stepCount}
 use Rattle.state.specs.declared.state.Job.{Job}
 use Rattle.state.specs.declared.state.State.{State}
 use Rattle.state.specs.declared.steps.Step.{Step}
+use Rattle.steps.specs.declared.step.Choice.{Choice}
 
 -- ---- the edit
 
@@ -21,6 +24,12 @@ noStep = record { lays = false; slot = 0; number = 0; edit = noEdit }
 -- "work step k does the k-th"
 unfoldable pub stepNow : State → Step
 stepNow s = getD (stepsOf s) (s .job .steps) noStep
+
+-- a choice of that step: the place in the list of its payload, and the number of one of its records
+pub record Chosen (c : Choice) (s : State) : Type 0 where
+  pub place : c .place < s .count
+  pub number : c .number < payloadAt s (c .place) .«edit_count»
+  pub step : stepFor (c .lays) (payloadAt s (c .place)) (c .number) ≡ stepNow s
 
 -- ---- the state after it
 
@@ -42,18 +51,6 @@ unfoldable pub statusesSet : State → State
 statusesSet s = changedIn (finished (s .job .action)) (takenDown s) (s .job .slot)
 
 -- the stack: without its top, with one more, or with the job's payload alone
-abbrev pub withStack : ℕ → List ℕ → State → State
-withStack depth stack s =
-    record {
-      config = s .config;
-      version = s .version;
-      count = s .count;
-      payloads = s .payloads;
-      depth = depth;
-      stack = stack;
-      job = s .job;
-    }
-
 unfoldable pub stackSet : State → State
 stackSet s =
     cond (eqb (s .job .action) revert) (withStack (s .depth - 1) (s .stack) s)

@@ -9,6 +9,7 @@ ghost use Rattle.state.specs.Change.{changedIn};
 ghost use Rattle.state.specs.State.{revert, checked, applied, isStanding};
 ghost use Rattle.steps.specs.Next.{allChecked, finished, statusesSet, stackSet, ended, worked};
 use ranges::counts;
+use ranges::outline;
 use state::change;
 use state::find;
 use state::state::Job;
@@ -30,7 +31,7 @@ fn all_checked(state: State) -> State
 }
 
 // The status that this action leaves its payload in.
-fn status_after(action: u32) -> u32
+pub fn status_after(action: u32) -> u32
     ensures { λ r. ⌜ r ≡ cond (eqb action revert) checked applied ⌝ }
 {
     if action == Job::REVERT {
@@ -104,7 +105,7 @@ pub fn next_state(state: State) -> State
     ensures { λ r. ⌜ r ≡ worked state ⌝ }
 {
     let mut job = state.job;
-    if job.steps as u64 + 1 == counts::step_count(state) {
+    if job.steps as u64 + 1 == counts::all_steps(outline::outline_of(state)) {
         return end_job(state);
     }
     job.steps += 1;

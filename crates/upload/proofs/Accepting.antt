@@ -14,7 +14,7 @@ use Rattle.records.specs.declared.refusal.Place.the-variants.{Nowhere}
 use Rattle.records.specs.declared.refusal.Refusal.{Refusal}
 use Rattle.records.specs.declared.refusal.Verdict.{Verdict}
 use Rattle.records.specs.declared.refusal.Verdict.the-variants.{Pass, Refuse}
-use Rattle.records.proofs.Checks.{Told, must-pass, then-pass, decided-verdict}
+use Rattle.records.proofs.Checks.{Told, then-pass, decided-verdict}
 use Rattle.state.specs.declared.state.State.{State}
 use Rattle.acceptance.specs.Consulted.{DifferInIgnored}
 use Rattle.acceptance.specs.Stages.{Setting, payloadRules}
@@ -25,7 +25,6 @@ use Rattle.upload.specs.Upload.{
   Lent,
   Request,
   request,
-  uploadSizesOk,
   settingFor,
   roomRules,
   requestRules,
@@ -44,19 +43,18 @@ module _ (s : State) (l : Lent) (q : Request) where
   abbrev aim : Setting
   aim = settingFor s (q .list)
 
-  abbrev sizesOk : Bool
-  sizesOk = uploadSizesOk s (length (l .arena)) (length (l .ids))
+  abbrev requested : Verdict
+  requested = requestRules s (length (l .arena)) (length (l .ids)) (q .name) (q .list)
 
   -- ---- accepted exactly when all is right
 
   passed : uploadRules s l q ≡ Pass → Acceptable s l q
-  unfolding uploadRules requestRules
+  unfolding uploadRules
   passed pass =
-      let stages = then-pass (requestRules s l q) (payloadRules aim (q .file)) pass in
-      let first = then-pass (must sizesOk 22 Nowhere) (roomRules s (q .name) (q .list)) (stages .0) in
-      let room = has-room s (q .name) (q .list) (first .1) in
+      let stages = then-pass requested (payloadRules aim (q .file)) pass in
+      let room = has-room _ _ _ _ _ (stages .0) in
       record {
-        sizes = must-pass _ _ _ (first .0);
+        sizes = room .sizes;
         named = room .named;
         listed = room .listed;
         new = room .new;
@@ -123,8 +121,8 @@ module _ (s : State) (l : Lent) (q : Request) where
         rw (given .3, given .4, given .2, given .0, given .1)
 
     same-upload : uploadOf s l instead ≡ uploadOf s l q
-    unfolding uploadOf uploadRules requestRules
-    same-upload = rw (← same .rules) (by-verdict (requestRules s l q) (payloadRules aim (q .file)) refl)
+    unfolding uploadOf uploadRules
+    same-upload = rw (← same .rules) (by-verdict requested (payloadRules aim (q .file)) refl)
 
   pub uploads : {u : Uploaded} → u ≡ uploadOf s l q → Uploads s l q u
   uploads e =

@@ -79,21 +79,22 @@ roomRules s name list =
     then must (not (isFound (withName s name))) 17 Nowhere
     then must (isFound (freeSlot s)) 12 Nowhere
 
+-- sizes to slot; `arena` and `ids` are lengths
+unfoldable pub requestRules : State → ℕ → ℕ → List ℕ → List ℕ → Verdict
+requestRules s arena ids name list = must (uploadSizesOk s arena ids) 22 Nowhere then roomRules s name list
+
+unfoldable pub uploadRules : State → Lent → Request → Verdict
+uploadRules s l q =
+    requestRules s (length (l .arena)) (length (l .ids)) (q .name) (q .list) then payloadRules (settingFor s (q .list)) (q .file)
+
+-- ---- what an accepted upload does
+
 abbrev pub refusedRoom : Refusal → Room
 refusedRoom r = record { verdict = Refuse r; slot = 0 }
 
-unfoldable pub roomOf : State → List ℕ → List ℕ → Room
-roomOf s name list = decide refusedRoom (record { verdict = Pass; slot = slotFor s }) (roomRules s name list)
-
--- up to the slot
-unfoldable pub requestRules : State → Lent → Request → Verdict
-requestRules s l q =
-    must (uploadSizesOk s (length (l .arena)) (length (l .ids))) 22 Nowhere then roomRules s (q .name) (q .list)
-
-unfoldable pub uploadRules : State → Lent → Request → Verdict
-uploadRules s l q = requestRules s l q then payloadRules (settingFor s (q .list)) (q .file)
-
--- ---- what an accepted upload does
+-- the payload's slot, where the rules up to it pass
+abbrev pub roomBy : State → Verdict → Room
+roomBy s = decide refusedRoom (record { verdict = Pass; slot = slotFor s })
 
 -- the payload prepared in its slot of the arena; a refusal leaves the arena as it was
 unfoldable pub preparedIn : Setting → List ℕ → ℕ → List ℕ → Outcome

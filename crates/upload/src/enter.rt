@@ -50,13 +50,7 @@ fn with_uploaded(state: State, payload: Payload) -> State
 }
 
 // The payload that was prepared for this slot, under `name`: the state after it.
-pub(crate) fn enter(
-    state: State,
-    ids: &mut [u8],
-    name: &[u8],
-    slot: usize,
-    prepared: Prepared,
-) -> State
+pub fn enter(state: State, ids: &mut [u8], name: &[u8], slot: usize, prepared: Prepared) -> State
     requires { ⌜ (state .count < slotCount) × (slot < slotCount) × (length (now ids) ≡ idsSize) ⌝ }
     requires { ⌜ (length (now name) ≤ nameMax) × (prepared .«edit_count» ≤ recordsMax) ⌝ }
     ensures { λ r. ⌜ r ≡ withUploaded state (recordFor (now (name .entry)) slot prepared) ⌝ }

@@ -3,7 +3,7 @@ ghost use mathlib.Core.Path.{_≡_};
 ghost use mathlib.Core.Bool.{true};
 ghost use Rattle.records.specs.Verdict.{refusal};
 ghost use Rattle.ranges.specs.Ranges.{inRange};
-ghost use Rattle.upload.specs.Upload.{uploadSizesOk, refusedRoom, roomOf};
+ghost use Rattle.upload.specs.Upload.{uploadSizesOk, roomRules, requestRules, refusedRoom, roomBy};
 use memory::config::Config;
 use ranges::names;
 use records::name;
@@ -27,7 +27,7 @@ fn refuse(reason: Reason) -> Room
     Room { verdict, slot: 0 }
 }
 
-pub(crate) fn sizes_ok(state: State, arena: usize, ids: usize) -> bool
+fn sizes_ok(state: State, arena: usize, ids: usize) -> bool
     ensures { λ r. ⌜ r ≡ uploadSizesOk state arena ids ⌝ }
 {
     if !ranges::ranges::in_range(state) {
@@ -39,10 +39,10 @@ pub(crate) fn sizes_ok(state: State, arena: usize, ids: usize) -> bool
     ids == Config::IDS_SIZE
 }
 
-// The slot that the payload takes, or why it gets none: name, symbol list, 17, slot.
-pub(crate) fn find_room(state: State, name: &[u8], list: &[u8]) -> Room
+// The rules after the sizes: name, symbol list, 17, slot.
+fn find_room(state: State, name: &[u8], list: &[u8]) -> Room
     requires { ⌜ inRange state ≡ true ⌝ }
-    ensures { λ r. ⌜ r ≡ roomOf state (now (name .entry)) (now (list .entry)) ⌝ }
+    ensures { λ r. ⌜ r ≡ roomBy state (roomRules state (now (name .entry)) (now (list .entry))) ⌝ }
 {
     if !name::is_name(name) {
         return refuse(Reason::Invalid);
@@ -60,4 +60,14 @@ pub(crate) fn find_room(state: State, name: &[u8], list: &[u8]) -> Room
         verdict: Verdict::Pass,
         slot,
     }
+}
+
+// The slot that the payload takes, or why it gets none, by the lengths of arena and id store.
+pub fn room_for(state: State, arena: usize, ids: usize, name: &[u8], list: &[u8]) -> Room
+    ensures { λ r. ⌜ r ≡ roomBy state (requestRules state arena ids (now (name .entry)) (now (list .entry))) ⌝ }
+{
+    if !sizes_ok(state, arena, ids) {
+        return refuse(Reason::Invalid);
+    }
+    find_room(state, name, list)
 }

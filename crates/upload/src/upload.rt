@@ -13,13 +13,18 @@ use super::room;
 use memory::config::Config;
 use prepare::prepare::Prepared;
 use records::payload::Payload;
-use records::refusal::Reason;
 use records::refusal::Verdict;
 use state::state::Called;
 use state::state::State;
 
 // The payload prepared in slot `slot` of the arena; a refusal leaves the arena as it was.
-fn prepare_in(config: Config, arena: &mut [u8], slot: usize, list: &[u8], file: &[u8]) -> Prepared
+pub fn prepare_in(
+    config: Config,
+    arena: &mut [u8],
+    slot: usize,
+    list: &[u8],
+    file: &[u8],
+) -> Prepared
     requires { ⌜ (configOk config ≡ true) × (slot < slotCount) × (length (now arena) ≡ arenaSize) ⌝ }
     ensures { λ r. ⌜ outcome r (now (arena .exit))
         ≡ preparedIn (setting (hostFor config slot) (now (list .entry))) (now (arena .entry)) slot (now (file .entry)) ⌝ }
@@ -43,10 +48,7 @@ pub fn upload(
         (request (now (name .entry)) (now (list .entry)) (now (file .entry)))
         (uploaded r (lent (now (arena .exit)) (now (ids .exit)))) ⌝ }
 {
-    if !room::sizes_ok(state, arena.len(), ids.len()) {
-        return Called::refused(state, Reason::Invalid);
-    }
-    let place = room::find_room(state, name, list);
+    let place = room::room_for(state, arena.len(), ids.len(), name, list);
     let found = place.verdict;
     if let Verdict::Refuse(r) = found {
         return Called {

@@ -5,7 +5,7 @@ use mathlib.Core.List.{List, [], _∷_, _++_, append-nil, append-assoc}
 use native.Mathlib.Nat.{add-zero}
 use native.Mathlib.Omega.{arith}
 use lib.ListN.{length, getD, take, drop, set, length-append, length-take, length-drop, take-append-drop, List·getD-append, drop-of-length-le}
-use lib.Seq.{length-take-le, take-length, take-at, drop-at, take-add, take-suc, take-take, drop-drop, take-append-le, drop-append-le, drop-append-add, getD-append-add, getD-take, getD-drop, set-at}
+use lib.Seq.{length-take-le, take-length, take-at, drop-at, take-add, take-suc, take-take, drop-drop, take-append-le, drop-append-le, take-append-add, drop-append-add, getD-append-add, getD-take, getD-drop, set-at}
 use Rattle.words.specs.Splice.{splice, part}
 
 -- ---- a list that is made of two
@@ -23,6 +23,13 @@ module _ {A : Type 0} (p q : List A) where
       let start : at ≤ length p = omega arith in
       rw (take-append-le at p q start, drop-append-le (at + length new) p q h) (simp append-assoc)
 
+  -- within the second
+  pub splice-second : (i : ℕ) (new : List A) → splice (p ++ q) (length p + i) new ≡ p ++ splice q i new
+  unfolding splice
+  splice-second i new =
+      let end : length p + i + length new ≡ length p + (i + length new) = omega arith in
+      rw (end, take-append-add p q i, drop-append-add p q (i + length new)) (simp append-assoc)
+
   part-front : (at n : ℕ) → at + n ≤ length p → part (p ++ q) at n ≡ part p at n
   unfolding part
   part-front at n h =
@@ -35,9 +42,9 @@ module _ {A : Type 0} (p q : List A) where
   unfolding part
   part-at at i n e = rw (← e, drop-append-add)
 
-part-all : {A : Type 0} (s : List A) → part s 0 (length s) ≡ s
+pub part-all : {A : Type 0} (s : List A) (n : ℕ) → length s ≡ n → part s 0 n ≡ s
 unfolding part
-part-all s = take-length s
+part-all s n e = rw (← e) (take-length s)
 
 module _ {A : Type 0} (s : List A) (at : ℕ) where
   pub length-part : (n : ℕ) → at + n ≤ length s → length (part s at n) ≡ n
@@ -119,7 +126,7 @@ module _ {A : Type 0} (s : List A) (at : ℕ) (new : List A) (fits : at ≤ leng
       part-front (take at s ++ new) (drop (at + length new) s) (at + i) n short ∙ part-at (take at s) new at i n front
 
   pub part-splice-same : part (splice s at new) at (length new) ≡ new
-  part-splice-same = rw (add-zero, part-all) at (part-splice-inside 0 (length new) (omega arith))
+  part-splice-same = rw (add-zero, part-all new (length new) refl) at (part-splice-inside 0 (length new) (omega arith))
 
   pub part-splice-before : (k n : ℕ) → k + n ≤ at → part (splice s at new) k n ≡ part s k n
   unfolding splice
@@ -176,6 +183,12 @@ splice-splice-apart s at k new other h g =
     rw take-append-drop at (apart (take k s) (drop k s) at k new other (length-take-le k s g) h)
 
 -- the whole of a list replaced
+-- right behind the one before, whose length is known
+pub splice-next :
+    {A : Type 0} (s : List A) (at n : ℕ) (new other : List A) → at ≤ length s → length new ≡ n →
+    splice (splice s at new) (at + n) other ≡ splice s at (new ++ other)
+splice-next s at n new other fits e = rw (← e) (splice-append s at new fits other)
+
 pub splice-whole : {A : Type 0} (s new : List A) → length new ≡ length s → splice s 0 new ≡ new
 unfolding splice
 splice-whole s new e =

@@ -48,7 +48,7 @@ fn take_off(text: &mut [u8], undo: &mut [u8], processor: Processor, step: Step)
 }
 
 // The step's edit is made.
-pub(crate) fn make(text: &mut [u8], undo: &mut [u8], processor: Processor, step: Step)
+pub fn make(text: &mut [u8], undo: &mut [u8], processor: Processor, step: Step)
     requires { ⌜ Ready (machineOf processor) step (lent (now text) (now undo)) ⌝ }
     ensures { λ r. ⌜ lent (now (text .exit)) (now (undo .exit))
         ≡ made (machineOf processor) step (lent (now (text .entry)) (now (undo .entry))) ⌝ }

@@ -1,3 +1,3 @@
 // A work step: one edit of the text, and the state after it.
-pub(crate) mod edit;
+pub mod edit;
 pub mod work;

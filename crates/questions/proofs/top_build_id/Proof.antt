@@ -1,6 +1,6 @@
 -- `top_build_id` meets its contract.
 use mathlib.Core.Path.{_≡_, ap, _∙_}
-use mathlib.Core.Bool.{Bool, true}
+use mathlib.Core.Bool.{true}
 use borrow.Author.Needs.{needs}
 use lib.ListN.{length}
 use Rattle.words.proofs.Tests.{held, refuted}

@@ -6,8 +6,9 @@ use Rattle.words.proofs.Tests.{held, refuted}
 use Rattle.state.specs.declared.state.State.{State}
 use Rattle.actions.specs.Actions.{lent, request, Acted, acted, actionOf}
 use Rattle.state_bytes.specs.Stored.{stateIn, isState}
+use Rattle.state_bytes.proofs.Laws.{state-length}
 use Rattle.calls.specs.Changes.{actionTold}
-use Rattle.calls.proofs.Laws.{told-invalid, state-length, refused-told, refused-kept, outcome-told}
+use Rattle.calls.proofs.Laws.{told-invalid, refused-told, refused-kept, outcome-told}
 use Rattle.calls.proofs.acting.action.Statement.{statement}
 use Rattle.calls.proofs.acting.action.Tie as tie
 

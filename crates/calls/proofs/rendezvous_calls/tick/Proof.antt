@@ -1,13 +1,11 @@
 -- `rendezvous_calls::tick` meets its contract.
-use mathlib.Core.Path.{_≡_, ap, _∙_}
+use mathlib.Core.Path.{_≡_, refl}
 use mathlib.Core.Bool.{true}
 use borrow.Author.Needs.{needs}
 use Rattle.words.proofs.Tests.{held, refuted}
-use Rattle.state.specs.declared.state.Called.{Called}
-use Rattle.rendezvous.specs.Rendezvous.{tickOf}
-use Rattle.state_bytes.specs.Stored.{stateIn, isState}
+use Rattle.state_bytes.specs.Stored.{isState}
 use Rattle.calls.specs.Changes.{tickTold}
-use Rattle.calls.proofs.Laws.{told-invalid, state-length, refused-told, refused-kept, outcome-told}
+use Rattle.calls.proofs.Laws.{told-invalid, refused-told, refused-kept, made-told}
 use Rattle.calls.proofs.rendezvous_calls.tick.Statement.{statement}
 use Rattle.calls.proofs.rendezvous_calls.tick.Tie as tie
 
@@ -23,17 +21,8 @@ whole c = held (c .before .is-state .ensures) (c .if1 .left)
 returns-2 : tie.Need-returns-2
 unfolding tickTold
 returns-2 c =
-    let storing = c .before .before .before in
-    let calling = storing .before .before .before in
-    let loading = calling .before in
-    let passed = loading .before .before in
-    let a = passed .before .before .before .before .args in
-    outcome-told (a .records .now) (λ (x : Called). x .verdict) (λ (x : Called). x .state) (λ (x : Called). tt) tt (calling .tick .result)
-    (tickOf (stateIn (a .records .now)))
-    (whole passed)
-    (c .code2 .ensures)
-    (storing .store .ensures)
-    (calling .tick .ensures ∙ ap tickOf (loading .load .ensures))
+    let call = c .before .before .before .tick .ensures in
+    made-told (c .before .before .before .before .before .before .before .before .before .args .records .now) tt (whole (c .before .before .before .before .before)) (c .code2 .ensures) (call .0) (call .1) refl
 
 pub tick-spec : {M : Type 1} → statement M
 tick-spec =
@@ -44,9 +33,7 @@ tick-spec =
     (λ c κs. search needs)
     (λ c. search needs)
     returns
-    (λ c κs. state-length _ (whole (c .before)))
-    (λ c κs. search needs)
-    (λ c κs. state-length _ (whole (c .before .before .before .before .before)))
+    (λ c κs. whole (c .before))
     (λ c κs. search needs)
     (λ c. search needs)
     returns-2)

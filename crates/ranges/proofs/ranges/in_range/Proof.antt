@@ -9,7 +9,7 @@ use lib.Dec.{leb}
 use lib.ListN.{length, drop}
 use Rattle.words.specs.Find.{every}
 use Rattle.words.proofs.Find.{every-turn, every-end}
-use Rattle.words.proofs.Tests.{held, refuted, differs, equals}
+use Rattle.words.proofs.Tests.{held, refuted}
 use Rattle.state.specs.Find.{isTaken}
 use Rattle.state.specs.State.{isStanding, loaded, stackOf}
 use Rattle.state.proofs.Whole.{noCopy, whole}
@@ -81,39 +81,8 @@ returns-4 c = rw (rest (c .before), lt-leb _ _ (c .if4 .taken))
 
 returns-5 : tie.Need-returns-5 Inv-loop μ-loop
 returns-5 c =
-    let told = c .before .before in
-    let shallow = told .before in
-    rw (
-      rest (shallow .before),
-      le-leb _ _ (shallow .if4 .left),
-      refuted (c .before .stack-in-range .ensures _ (told .outline-of .ensures)) (c .if5 .taken),
-    )
-
-returns-6 : tie.Need-returns-6 Inv-loop μ-loop
-returns-6 c =
-    let stack = c .before .before in
-    let told = stack .before .before in
-    let shallow = told .before in
-    rw (
-      rest (shallow .before),
-      le-leb _ _ (shallow .if4 .left),
-      held (stack .before .stack-in-range .ensures _ (told .outline-of .ensures)) (stack .if5 .left),
-      equals (told .outline-of .ensures .action) (c .if6 .taken),
-    )
-
-returns-7 : tie.Need-returns-7 Inv-loop μ-loop
-returns-7 c =
-    let standing = c .before in
-    let stack = standing .before .before in
-    let told = stack .before .before in
-    let shallow = told .before in
-    rw (
-      rest (shallow .before),
-      le-leb _ _ (shallow .if4 .left),
-      held (stack .before .stack-in-range .ensures _ (told .outline-of .ensures)) (stack .if5 .left),
-      differs (told .outline-of .ensures .action) (standing .if6 .left),
-    )
-    (c .job-in-range .ensures _ (told .outline-of .ensures))
+    let shallow = c .before .before in
+    rw (rest (shallow .before), le-leb _ _ (shallow .if4 .left)) (c .outline-in-range .ensures _ (c .before .outline-of .ensures))
 
 pub in-range-spec : {M : Type 1} → statement M
 in-range-spec =
@@ -135,9 +104,4 @@ in-range-spec =
     returns-4
     (λ c κs. search needs)
     (λ c κs. (omega (arith, c .outline-of .ensures .count), omega (arith, c .outline-of .ensures .depth)))
-    returns-5
-    returns-6
-    (λ c κs.
-    let told = c .before .before .before .before in
-    (omega (arith, told .outline-of .ensures .count), omega (arith, told .outline-of .ensures .depth)))
-    returns-7)
+    returns-5)

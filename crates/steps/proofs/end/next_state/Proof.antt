@@ -17,15 +17,21 @@ module _ (c : tie.Start) where
   ranges : InRange (c .args .state)
   ranges = in-range all-whole (c .pre .0)
 
+all-steps-requires : tie.Need-all-steps-requires
+all-steps-requires c κs =
+    let r = ranges (c .before .before .before) in
+    let told = c .outline-of .ensures in
+    (omega (arith, told .count, r .few), omega (arith, told .depth, r .few, r .shallow))
+
 returns : tie.Need-returns
 unfolding worked
 returns c =
     let last = c .before in
-    c .end-job .ensures ∙ rw (eq-eqb _ _ (last .if1 .taken ∙ last .before .step-count .ensures))
+    c .end-job .ensures ∙ rw (eq-eqb _ _ (last .if1 .taken ∙ last .before .all-steps .ensures _ (last .before .before .outline-of .ensures)))
 
 add-job : tie.Need-add-job
 add-job c =
-    let start = c .before .before .before .before .before in
+    let start = c .before .before .before .before .before .before in
     let r = ranges start in
     let job = r .job (start .pre .1) in
     omega (arith, job .steps, steps-few (all-whole start) r job)
@@ -34,7 +40,7 @@ returns-2 : tie.Need-returns-2
 unfolding worked
 returns-2 c =
     let more = c .before in
-    rw (ne-eqb _ _ (λ e. more .if1 .left (e ∙ sym (more .before .step-count .ensures))))
+    rw (ne-eqb _ _ (λ e. more .if1 .left (e ∙ sym (more .before .all-steps .ensures _ (more .before .before .outline-of .ensures)))))
 
 pub next-state-spec : {M : Type 1} → statement M
 next-state-spec =
@@ -42,7 +48,8 @@ next-state-spec =
     (tie.spec
     (λ c. search needs)
     (λ c. search needs)
-    (λ c κs. (ranges (c .before .before) .few, omega (arith, ranges (c .before .before) .few, ranges (c .before .before) .shallow)))
+    (λ c κs. ranges (c .before .before) .few)
+    all-steps-requires
     (λ c κs. search needs)
     returns
     add-job

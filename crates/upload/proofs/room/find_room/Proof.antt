@@ -6,17 +6,17 @@ use Rattle.words.proofs.Tests.{held, refuted}
 use Rattle.records.specs.Name.{isName}
 use Rattle.symbols.specs.SymbolList.{valid}
 use Rattle.state.specs.Find.{withName}
-use Rattle.upload.specs.Upload.{roomRules, roomOf}
+use Rattle.upload.specs.Upload.{roomRules}
 use borrow.Author.Needs.{needs}
 use Rattle.upload.proofs.room.find_room.Statement.{statement}
 use Rattle.upload.proofs.room.find_room.Tie as tie
 
 returns : tie.Need-returns
-unfolding roomOf roomRules
+unfolding roomRules
 returns c = rw (refuted (c .before .before .is-name .ensures) (c .before .if1 .taken)) (c .refuse .ensures)
 
 returns-2 : tie.Need-returns-2
-unfolding roomOf roomRules
+unfolding roomRules
 returns-2 c =
     let named = c .before .before .before in
     rw (held (named .before .is-name .ensures) (named .if1 .left), refuted (c .before .before .is-valid .ensures) (c .before .if2 .taken))
@@ -34,7 +34,7 @@ module _ (c : tie.Else2) where
   listed = held (c .before .is-valid .ensures) (c .if2 .left)
 
 returns-3 : tie.Need-returns-3
-unfolding roomOf roomRules
+unfolding roomRules
 returns-3 c =
     let naming = c .before .before .before in
     rw (named (naming .before), listed (naming .before), ← naming .with-name .ensures, c .before .enum-told .given .1) (c .refuse3 .ensures)
@@ -48,14 +48,14 @@ module _ (c : tie.After-enum-told2) where
   new = rw (← c .before .before .with-name .ensures, c .enum-told2 .given .1)
 
 returns-4 : tie.Need-returns-4
-unfolding roomOf roomRules
+unfolding roomRules
 returns-4 c =
     let freeing = c .before .before .before in
     let here = freeing .before in
     rw (named (right here), listed (right here), new here, ← freeing .free-slot .ensures, c .before .enum-told3 .given .1) (c .refuse4 .ensures)
 
 returns-5 : tie.Need-returns-5
-unfolding roomOf roomRules
+unfolding roomRules
 returns-5 c =
     let freeing = c .before .before .before in
     let here = freeing .before in

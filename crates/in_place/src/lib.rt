@@ -1,0 +1,6 @@
+// Report, tick and work step made in the records buffer: the state is not loaded, and only the bytes that change are written.
+pub(crate) mod change;
+pub(crate) mod end;
+pub(crate) mod range;
+pub mod reporting;
+pub mod working;
