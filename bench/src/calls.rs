@@ -77,7 +77,7 @@ pub fn check() -> Result<usize, String> {
 
 pub fn show(rounds: usize) -> Result<(), String> {
     println!("both loaders get the records as bytes: each call reads and checks them, and writes back what it may");
-    println!("  change: all of them, or in the library's report, tick and work the part that changes");
+    println!("  change: all of them, or in the library's upload, report, tick and work the part that changes");
     print_head("calls, memory put back between rounds, outside the time:");
     for Line { name, per, case } in lines() {
         let times = case.times(rounds).map_err(|words| format!("{name}: {words}"))?;

@@ -2,17 +2,16 @@
 ghost use Rattle.upload.specs.Upload.{lent, request};
 ghost use Rattle.calls.specs.Changes.{Uploads};
 ghost use Rattle.calls.specs.Told.{told};
+use in_place::uploading;
 use records::refusal::Place;
 use records::refusal::Reason;
 use records::refusal::Refusal;
 use records::refusal::Verdict;
 use state_bytes::buffer;
 use state_bytes::parts;
-use upload::enter;
-use upload::room;
 
 // The payload `file` under `name`, its undefined symbols looked up in `list`. Accepted, the records, the lowest free slot and its id store entry are
-// written; refused, nothing is. The state is loaded where it is asked, so that it is not held while the payload is prepared.
+// written; refused, nothing is.
 pub fn upload(
     records: &mut [u8],
     arena: &mut [u8],
@@ -28,7 +27,7 @@ pub fn upload(
     if !buffer::is_state(records) {
         return Refusal::new(Reason::Invalid, Place::Nowhere).code();
     }
-    let place = room::room_for(buffer::load(records), arena.len(), ids.len(), name, list);
+    let place = uploading::room_for(records, arena.len(), ids.len(), name, list);
     let found = place.verdict;
     if let Verdict::Refuse(r) = found {
         return r.code();
@@ -39,7 +38,6 @@ pub fn upload(
     if let Verdict::Refuse(r) = verdict {
         return r.code();
     }
-    let next = enter::enter(buffer::load(records), ids, name, place.slot, prepared);
-    buffer::store(records, next);
+    uploading::enter(records, ids, name, place.slot, prepared);
     0
 }

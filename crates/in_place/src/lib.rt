@@ -1,6 +1,8 @@
-// Report, tick and work step made in the records buffer: the state is not loaded, and only the bytes that change are written.
+// Upload, report, tick and work step made in the records buffer: the state is not loaded, and only the bytes that change are written.
 pub(crate) mod change;
 pub(crate) mod end;
-pub(crate) mod range;
+pub mod find;
+pub mod range;
 pub mod reporting;
+pub mod uploading;
 pub mod working;

@@ -52,7 +52,7 @@ pub(crate) fn with_slot(b: &[u8], slot: u32) -> Found
 }
 
 // Whether every number of the state lies in its range. One payload at a time is loaded.
-pub(crate) fn in_range(b: &[u8]) -> bool
+pub fn in_range(b: &[u8]) -> bool
     requires { ⌜ length (now b) ≡ recordsSize ⌝ }
     ensures { λ r. ⌜ r ≡ inRange (stateIn (now (b .entry))) ⌝ }
 {

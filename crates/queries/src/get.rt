@@ -2,9 +2,10 @@
 ghost use mathlib.Core.Path.{_≡_};
 ghost use Rattle.records.specs.Verdict.{refusal};
 ghost use Rattle.state.specs.State.{resultWord};
-ghost use Rattle.queries.specs.Get.{refusedGet, getOf};
+ghost use Rattle.queries.specs.Get.{refusedGet, got, getOf};
 use ranges::names;
 use records::name;
+use records::payload::Payload;
 use records::refusal::Place;
 use records::refusal::Reason;
 use records::refusal::Refusal;
@@ -29,7 +30,7 @@ pub fn result_word(magnitude: u32) -> u32
     u32::MAX - (magnitude - 1)
 }
 
-fn refuse(reason: Reason) -> Got
+pub fn refuse(reason: Reason) -> Got
     ensures { λ r. ⌜ r ≡ refusedGet (refusal reason Place.Nowhere) ⌝ }
 {
     let refusal = Refusal::new(reason, Place::Nowhere);
@@ -37,6 +38,17 @@ fn refuse(reason: Reason) -> Got
         verdict: Verdict::Refuse(refusal),
         status: 0,
         result: 0,
+    }
+}
+
+// What is said of a payload.
+pub fn answer(payload: Payload) -> Got
+    ensures { λ r. ⌜ r ≡ got payload ⌝ }
+{
+    Got {
+        verdict: Verdict::Pass,
+        status: payload.status,
+        result: result_word(payload.result),
     }
 }
 
@@ -53,10 +65,5 @@ pub fn get(state: State, name: &[u8]) -> Got
     let Found::At(i) = names::with_name(state, name) else {
         return refuse(Reason::NotLoaded);
     };
-    let payload = state.payloads[i];
-    Got {
-        verdict: Verdict::Pass,
-        status: payload.status,
-        result: result_word(payload.result),
-    }
+    answer(state.payloads[i])
 }

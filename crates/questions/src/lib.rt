@@ -3,15 +3,24 @@ ghost use mathlib.Core.Path.{_≡_};
 ghost use mathlib.Core.List.{_++_};
 ghost use lib.ListN.{length};
 ghost use Rattle.words.specs.Number.{leBytes};
+ghost use Rattle.queries.specs.Get.{getOf};
 ghost use Rattle.listing.specs.List.{buffers};
+ghost use Rattle.state_bytes.specs.Layout.{recordsSize};
+ghost use Rattle.state_bytes.specs.Stored.{stateIn};
 ghost use Rattle.questions.specs.Questions.{getSize, listSize, asked, getAsked, listAsking, listAsked, topAsked, rightBuffers};
+use in_place::find;
+use in_place::range;
 use queries::get;
+use queries::get::Got;
 use queries::top_id;
+use records::name;
 use records::refusal::Place;
 use records::refusal::Reason;
 use records::refusal::Refusal;
 use records::refusal::Verdict;
 use state_bytes::buffer;
+use state_bytes::parts;
+use words::bytes::Found;
 
 // The bytes of the out buffers.
 const GET_SIZE: usize = 8;
@@ -39,6 +48,23 @@ fn write_two(out: &mut [u8], a: u32, b: u32)
     words::le::write(out, 4, 4, b as u64);
 }
 
+// The payload of this name, found in the records.
+fn get_in(records: &[u8], name: &[u8]) -> Got
+    requires { ⌜ length (now records) ≡ recordsSize ⌝ }
+    ensures { λ r. ⌜ r ≡ getOf (stateIn (now (records .entry))) (now (name .entry)) ⌝ }
+{
+    if !range::in_range(records) {
+        return get::refuse(Reason::Invalid);
+    }
+    if !name::is_name(name) {
+        return get::refuse(Reason::Invalid);
+    }
+    let Found::At(i) = find::with_name(records, name) else {
+        return get::refuse(Reason::NotLoaded);
+    };
+    get::answer(parts::payload(records, i))
+}
+
 // Status and last result of the payload of this name.
 pub fn get(records: &[u8], name: &[u8], out: &mut [u8]) -> u64
     ensures { λ r. ⌜ asked r (now (out .exit)) ≡ getAsked (now (records .entry)) (now (name .entry)) (now (out .entry)) ⌝ }
@@ -46,7 +72,7 @@ pub fn get(records: &[u8], name: &[u8], out: &mut [u8]) -> u64
     if !right_buffers(records, out.len(), GET_SIZE) {
         return Refusal::new(Reason::Invalid, Place::Nowhere).code();
     }
-    let got = get::get(buffer::load(records), name);
+    let got = get_in(records, name);
     let verdict = got.verdict;
     if let Verdict::Refuse(r) = verdict {
         return r.code();

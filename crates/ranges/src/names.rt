@@ -11,7 +11,7 @@ use words::bytes;
 use words::bytes::Found;
 
 // Whether the payload has this name.
-fn is_named(payload: Payload, name: &[u8]) -> bool
+pub fn is_named(payload: Payload, name: &[u8]) -> bool
     requires { ⌜ payload .«name_length» ≤ nameMax ⌝ }
     ensures { λ r. ⌜ r ≡ isNamed (now (name .entry)) payload ⌝ }
 {

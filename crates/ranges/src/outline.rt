@@ -2,7 +2,7 @@
 ghost use mathlib.Core.Path.{_≡_};
 ghost use Prim.Native.Nat.{ℕ, _≤_, _<_};
 ghost use Rattle.memory.specs.Memory.{slotCount};
-ghost use Rattle.state.specs.Find.{withSlot, payloadIn};
+ghost use Rattle.state.specs.Find.{withSlot, lowestFree, freeSlot, payloadIn};
 ghost use Rattle.ranges.specs.Outline.{Outlines};
 use memory::config::Config;
 use state::state::State;
@@ -71,4 +71,29 @@ pub fn edits_in(outline: Outline, slot: u32) -> u32
         return 0;
     };
     outline.edits[i]
+}
+
+// The lowest slot that no payload is in.
+fn lowest_free(outline: Outline) -> Found
+    requires { ⌜ outline .count ≤ slotCount ⌝ }
+    ensures { λ r. ⌜ ((s : State) → Outlines outline s → r ≡ lowestFree s) ⌝ }
+{
+    let mut slot = 0;
+    while slot < Config::SLOTS {
+        let Found::At(_) = with_slot(outline, slot as u32) else {
+            return Found::At(slot);
+        };
+        slot += 1;
+    }
+    Found::Nothing
+}
+
+// The slot that an upload takes.
+pub fn free_slot(outline: Outline) -> Found
+    ensures { λ r. ⌜ ((s : State) → Outlines outline s → r ≡ freeSlot s) ⌝ }
+{
+    if Config::SLOTS <= outline.count {
+        return Found::Nothing;
+    }
+    lowest_free(outline)
 }

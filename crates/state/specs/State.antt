@@ -101,6 +101,15 @@ abbrev pub withPayloads : List Payload → State → State
 withPayloads ps s =
     record { config = s .config; version = s .version; count = s .count; payloads = ps; depth = s .depth; stack = s .stack; job = s .job }
 
+-- how many payloads are loaded, and the version of their list
+abbrev pub withCount : ℕ → State → State
+withCount n s =
+    record { config = s .config; version = s .version; count = n; payloads = s .payloads; depth = s .depth; stack = s .stack; job = s .job }
+
+abbrev pub withVersion : ℕ → State → State
+withVersion n s =
+    record { config = s .config; version = n; count = s .count; payloads = s .payloads; depth = s .depth; stack = s .stack; job = s .job }
+
 -- the applied payloads: how many, and their slots
 abbrev pub withStack : ℕ → List ℕ → State → State
 withStack depth stack s =

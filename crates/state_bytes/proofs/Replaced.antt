@@ -20,7 +20,7 @@ use Rattle.records.specs.declared.payload.Payload.{Payload}
 use Rattle.memory.specs.Config.{cpusMax}
 use Rattle.memory.specs.Memory.{slotCount}
 use Rattle.state.specs.Find as find
-use Rattle.state.specs.State.{withPayloads, withStack, withJob}
+use Rattle.state.specs.State.{withPayloads, withCount, withVersion, withStack, withJob}
 use Rattle.state.specs.declared.state.Job.{Job}
 use Rattle.state.specs.declared.state.State.{State}
 use Rattle.state.proofs.Whole.{WholePayload, Whole}
@@ -170,27 +170,57 @@ module _ (b : List ℕ) (known : Bytes b) (held : isState b ≡ true) where
       (ap (λ (l : List ℕ). set (stateFields s) 3 l) (splice-whole _ (chained (map (leBytes 4) slots)) (size ∙ sym (length-stack s arrays))))
       told
 
-  pub depth-replaced :
-      (d : ℕ) → d < 256 ^ 8 → {after : List ℕ} → after ≡ splice b (countPlace + 8) (leBytes 8 d) → HoldsState (withStack d (s .stack) s) after
-  unfolding countBytes
-  depth-replaced d small told =
-      let t = withStack d (s .stack) s in
-      let fit : StateFits t = record {
+  -- the state with other counts: how many payloads are loaded, the version, and how many are applied
+  abbrev counted : ℕ → ℕ → ℕ → State
+  counted n v d = withCount n (withVersion v (withStack d (s .stack) s))
+
+  counts-fit : {n v d : ℕ} → n < 256 ^ 8 → v < 256 ^ 4 → d < 256 ^ 8 → StateFits (counted n v d)
+  counts-fit n-small v-small d-small =
+      record {
         whole = record { payloads = arrays .payloads; each-payload = arrays .each-payload; stack = arrays .stack; held = arrays .held };
         config = fits .config;
-        count = fits .count;
-        depth = small;
-        version = fits .version;
+        count = n-small;
+        depth = d-small;
+        version = v-small;
         job = fits .job;
         stack = fits .stack;
         payloads = fits .payloads;
-      } in
+      }
+
+  -- one of these numbers replaced, by its place among them
+  number-replaced :
+      {n v d : ℕ} → StateFits (counted n v d) → (k at : ℕ) (new : List ℕ) → sum (take k countWidths) + 0 ≡ at → k < 3 → at + length new ≤ 20 →
+      length new ≡ length (getD (countFields s) k []) → length new ≡ getD countWidths k 0 → set (countFields s) k new ≡ countFields (counted n v d) →
+      {after : List ℕ} → after ≡ splice b (countPlace + at) new → HoldsState (counted n v d) after
+  unfolding countBytes
+  number-replaced {n} {v} {d} fit k at new place inside room size width fields told =
+      let counts : splice (countBytes s) at new ≡ countBytes (counted n v d) =
+      ap (λ (i : ℕ). splice (countBytes s) i new) (sym place)
+      ∙ field-replaced (countFields s) countWidths (count-widths s) k 0 new inside (omega (arith, width))
+      ∙ ap (λ (l : List ℕ). chained (set (countFields s) k l)) (splice-whole _ new size)
+      ∙ ap chained fields in
+      replaced (counted n v d) fit 1 at new (omega arith) room (ap (λ (l : List ℕ). set (stateFields s) 1 l) counts) told
+
+  pub count-replaced :
+      (n : ℕ) → n < 256 ^ 8 → {after : List ℕ} → after ≡ splice b countPlace (leBytes 8 n) → HoldsState (withCount n s) after
+  count-replaced n small told =
+      let size = length-leBytes 8 n in
+      number-replaced (counts-fit small (fits .version) (fits .depth)) 0 0 (leBytes 8 n) refl (omega arith) (omega (arith, size))
+      (size ∙ sym (length-leBytes 8 (s .count))) size refl told
+
+  pub depth-replaced :
+      (d : ℕ) → d < 256 ^ 8 → {after : List ℕ} → after ≡ splice b (countPlace + 8) (leBytes 8 d) → HoldsState (withStack d (s .stack) s) after
+  depth-replaced d small told =
       let size = length-leBytes 8 d in
-      let counts : splice (countBytes s) 8 (leBytes 8 d) ≡ countBytes t =
-      field-replaced (countFields s) countWidths (count-widths s) 1 0 (leBytes 8 d) (omega arith) (omega (arith, size))
-      ∙ ap (λ (l : List ℕ). chained (set (countFields s) 1 l))
-      (splice-whole (leBytes 8 (s .depth)) (leBytes 8 d) (size ∙ sym (length-leBytes 8 (s .depth)))) in
-      replaced t fit 1 8 (leBytes 8 d) (omega arith) (omega (arith, size)) (ap (λ (l : List ℕ). set (stateFields s) 1 l) counts) told
+      number-replaced (counts-fit (fits .count) (fits .version) small) 1 8 (leBytes 8 d) refl (omega arith) (omega (arith, size))
+      (size ∙ sym (length-leBytes 8 (s .depth))) size refl told
+
+  pub version-replaced :
+      (v : ℕ) → v < 256 ^ 4 → {after : List ℕ} → after ≡ splice b (countPlace + 16) (leBytes 4 v) → HoldsState (withVersion v s) after
+  version-replaced v small told =
+      let size = length-leBytes 4 v in
+      number-replaced (counts-fit (fits .count) small (fits .depth)) 2 16 (leBytes 4 v) refl (omega arith) (omega (arith, size))
+      (size ∙ sym (length-leBytes 4 (s .version))) size refl told
 
   module _ (i : ℕ) (p : Payload) (h : i < slotCount) (w : WholePayload p) (back : payloadAt (payloadBytes p) 0 ≡ p) where
     abbrev others : List Payload

@@ -5,7 +5,7 @@ ghost use Prim.Native.Nat.{_<_};
 ghost use lib.ListN.{length, set};
 ghost use Rattle.memory.specs.Memory.{slotCount};
 ghost use Rattle.state.specs.Find.{payloadAt};
-ghost use Rattle.state.specs.State.{withPayloads, withStack, withJob};
+ghost use Rattle.state.specs.State.{withPayloads, withCount, withVersion, withStack, withJob};
 ghost use Rattle.state_bytes.specs.Layout.{recordsSize};
 ghost use Rattle.state_bytes.specs.Stored.{stateIn, isState, HoldsState};
 use super::head;
@@ -37,6 +37,14 @@ pub fn depth(b: &[u8]) -> usize
     ensures { λ r. ⌜ r ≡ stateIn (now (b .entry)) .depth ⌝ }
 {
     numbers::load8(b, layout::COUNT_AT + 8) as usize
+}
+
+// The version of the list.
+pub fn version(b: &[u8]) -> u32
+    requires { ⌜ length (now b) ≡ recordsSize ⌝ }
+    ensures { λ r. ⌜ r ≡ stateIn (now (b .entry)) .version ⌝ }
+{
+    numbers::load4(b, layout::COUNT_AT + 16)
 }
 
 pub fn stack(b: &[u8]) -> [u32; Config::SLOTS]
@@ -77,7 +85,21 @@ pub fn edit_count(b: &[u8], i: usize) -> u32
     numbers::load4(b, at + layout::EDIT_COUNT_AT)
 }
 
-// The number of applied payloads replaced, their slots, the job, and the payload at place `i` of the list.
+// The number of loaded payloads replaced, the version, the number of applied payloads, their slots, the job, and the payload at place `i` of the list.
+pub fn put_count(b: &mut [u8], count: usize)
+    requires { ⌜ isState (now b) ≡ true ⌝ }
+    ensures { λ r. ⌜ HoldsState (withCount count (stateIn (now (b .entry)))) (now (b .exit)) ⌝ }
+{
+    numbers::store8(b, layout::COUNT_AT, count as u64);
+}
+
+pub fn put_version(b: &mut [u8], version: u32)
+    requires { ⌜ isState (now b) ≡ true ⌝ }
+    ensures { λ r. ⌜ HoldsState (withVersion version (stateIn (now (b .entry)))) (now (b .exit)) ⌝ }
+{
+    numbers::store4(b, layout::COUNT_AT + 16, version);
+}
+
 pub fn put_depth(b: &mut [u8], depth: usize)
     requires { ⌜ isState (now b) ≡ true ⌝ }
     ensures { λ r. ⌜ HoldsState (withStack depth (stateIn (now (b .entry)) .stack) (stateIn (now (b .entry)))) (now (b .exit)) ⌝ }

@@ -11,7 +11,7 @@ use records::payload::Payload;
 use state::state::State;
 
 // The id, and zeros after it, as entry `slot` of the id store.
-fn write_id(ids: &mut [u8], slot: usize, id: &[u8; Payload::ID_MAX])
+pub fn write_id(ids: &mut [u8], slot: usize, id: &[u8; Payload::ID_MAX])
     requires { ⌜ idAt slot + idMax ≤ length (now ids) ⌝ }
     ensures { λ r. ⌜ now (ids .exit) ≡ splice (now (ids .entry)) (idAt slot) (now (id .entry)) ⌝ }
 {
@@ -19,7 +19,7 @@ fn write_id(ids: &mut [u8], slot: usize, id: &[u8; Payload::ID_MAX])
 }
 
 // The record of a payload that was prepared for this slot.
-fn record_for(name: &[u8], slot: u32, prepared: Prepared) -> Payload
+pub fn record_for(name: &[u8], slot: u32, prepared: Prepared) -> Payload
     requires { ⌜ (length (now name) ≤ nameMax) × (prepared .«edit_count» ≤ recordsMax) ⌝ }
     ensures { λ r. ⌜ r ≡ recordFor (now (name .entry)) slot prepared ⌝ }
 {

@@ -1,16 +1,16 @@
 // The rules up to the slot.
 ghost use mathlib.Core.Path.{_≡_};
-ghost use mathlib.Core.Bool.{true};
 ghost use Rattle.records.specs.Verdict.{refusal};
+ghost use Rattle.state.specs.Find.{withName, freeSlot};
 ghost use Rattle.ranges.specs.Ranges.{inRange};
 ghost use Rattle.upload.specs.Upload.{uploadSizesOk, roomRules, requestRules, refusedRoom, roomBy};
 use memory::config::Config;
 use ranges::names;
+use ranges::outline;
 use records::name;
 use records::refusal::Place;
 use records::refusal::Reason;
 use records::refusal::Verdict;
-use state::find;
 use state::state::State;
 use words::bytes::Found;
 
@@ -20,17 +20,18 @@ pub struct Room {
     pub slot: usize,
 }
 
-fn refuse(reason: Reason) -> Room
+pub fn refuse(reason: Reason) -> Room
     ensures { λ r. ⌜ r ≡ refusedRoom (refusal reason Place.Nowhere) ⌝ }
 {
     let verdict = Verdict::refused(reason, Place::Nowhere);
     Room { verdict, slot: 0 }
 }
 
-fn sizes_ok(state: State, arena: usize, ids: usize) -> bool
-    ensures { λ r. ⌜ r ≡ uploadSizesOk state arena ids ⌝ }
+// Whether the lent sizes are right, by whether the state is in range.
+pub fn sizes_ok(in_range: bool, arena: usize, ids: usize) -> bool
+    ensures { λ r. ⌜ ((s : State) → «in_range» ≡ inRange s → r ≡ uploadSizesOk s arena ids) ⌝ }
 {
-    if !ranges::ranges::in_range(state) {
+    if !in_range {
         return false;
     }
     if arena != Config::ARENA_SIZE {
@@ -39,10 +40,10 @@ fn sizes_ok(state: State, arena: usize, ids: usize) -> bool
     ids == Config::IDS_SIZE
 }
 
-// The rules after the sizes: name, symbol list, 17, slot.
-fn find_room(state: State, name: &[u8], list: &[u8]) -> Room
-    requires { ⌜ inRange state ≡ true ⌝ }
-    ensures { λ r. ⌜ r ≡ roomBy state (roomRules state (now (name .entry)) (now (list .entry))) ⌝ }
+// The rules after the sizes: name, symbol list, 17, slot. `loaded` is where the state has that name, `free` its free slot.
+pub fn find_room(name: &[u8], list: &[u8], loaded: Found, free: Found) -> Room
+    ensures { λ r. ⌜ ((s : State) → loaded ≡ withName s (now (name .entry)) → free ≡ freeSlot s
+        → r ≡ roomBy s (roomRules s (now (name .entry)) (now (list .entry)))) ⌝ }
 {
     if !name::is_name(name) {
         return refuse(Reason::Invalid);
@@ -50,10 +51,10 @@ fn find_room(state: State, name: &[u8], list: &[u8]) -> Room
     if !symbols::is_valid(list) {
         return refuse(Reason::Invalid);
     }
-    if let Found::At(_) = names::with_name(state, name) {
+    if let Found::At(_) = loaded {
         return refuse(Reason::Loaded);
     }
-    let Found::At(slot) = find::free_slot(state) else {
+    let Found::At(slot) = free else {
         return refuse(Reason::NoRoom);
     };
     Room {
@@ -66,8 +67,10 @@ fn find_room(state: State, name: &[u8], list: &[u8]) -> Room
 pub fn room_for(state: State, arena: usize, ids: usize, name: &[u8], list: &[u8]) -> Room
     ensures { λ r. ⌜ r ≡ roomBy state (requestRules state arena ids (now (name .entry)) (now (list .entry))) ⌝ }
 {
-    if !sizes_ok(state, arena, ids) {
+    if !sizes_ok(ranges::ranges::in_range(state), arena, ids) {
         return refuse(Reason::Invalid);
     }
-    find_room(state, name, list)
+    let loaded = names::with_name(state, name);
+    let free = outline::free_slot(outline::outline_of(state));
+    find_room(name, list, loaded, free)
 }

@@ -1,14 +1,12 @@
 -- `get` meets its contract.
 use Prim.Native.Nat.{ℕ}
-use mathlib.Core.Path.{_≡_, ap, _∙_}
+use mathlib.Core.Path.{_≡_, ap}
 use mathlib.Core.Bool.{true}
 use mathlib.Core.List.{List}
 use borrow.Author.Needs.{needs}
 use lib.ListN.{length}
 use Rattle.words.proofs.Tests.{held, refuted}
 use Rattle.records.specs.declared.refusal.Verdict.the-variants.{Pass, Refuse}
-use Rattle.state.specs.declared.state.State.{State}
-use Rattle.queries.specs.Get.{getOf}
 use Rattle.questions.specs.Questions.{asked, rightBuffers, getSize}
 use Rattle.calls.proofs.Laws.{told-invalid}
 use Rattle.questions.proofs.QuestionLaws.{right-out, right-records, get-wrong, get-told}
@@ -30,11 +28,10 @@ module _ (c : tie.Else1) where
 returns-2 : tie.Need-returns-2
 returns-2 c =
     let calling = c .before .before .before .before in
-    let loading = calling .before in
-    let passed = loading .before in
+    let passed = calling .before in
     let a = start passed .args in
-    get-told (a .records .now) (a .name .now) (a .out .now) (calling .get .result) (Refuse _) (right passed)
-    (calling .get .ensures ∙ ap (λ (s : State). getOf s (a .name .now)) (loading .load .ensures))
+    get-told (a .records .now) (a .name .now) (a .out .now) (calling .get-in .result) (Refuse _) (right passed)
+    (calling .get-in .ensures)
     (c .before .before .verdict .given .1)
     (ap (λ (n : ℕ). asked n (a .out .now)) (c .code2 .ensures))
 
@@ -43,11 +40,10 @@ returns-3 c =
     let writing = c .before .before in
     let told = writing .before .before in
     let calling = told .before .before in
-    let loading = calling .before in
-    let passed = loading .before in
+    let passed = calling .before in
     let a = start passed .args in
-    get-told (a .records .now) (a .name .now) (a .out .now) (calling .get .result) Pass (right passed)
-    (calling .get .ensures ∙ ap (λ (s : State). getOf s (a .name .now)) (loading .load .ensures))
+    get-told (a .records .now) (a .name .now) (a .out .now) (calling .get-in .result) Pass (right passed)
+    (calling .get-in .ensures)
     (told .enum-told .given .1)
     (ap (λ (l : List ℕ). asked 0 l) (writing .write-two .ensures))
 
@@ -60,13 +56,12 @@ get-spec =
     (λ c κs. search needs)
     returns
     (λ c κs. right-records (start c .args .records .now) (length (start c .args .out .now)) getSize (right c))
-    (λ c κs. search needs)
     (λ c. search needs)
     (λ c κs. search needs)
     returns-2
     (λ c. search needs)
     (λ c κs.
-    let a = start (c .before .before .before .before .before) .args in
-    right-out (a .records .now) (length (a .out .now)) getSize (right (c .before .before .before .before .before)))
+    let a = start (c .before .before .before .before) .args in
+    right-out (a .records .now) (length (a .out .now)) getSize (right (c .before .before .before .before)))
     (λ c. search needs)
     returns-3)

@@ -1,21 +1,19 @@
 -- `uploading::upload` meets its contract: each stage is asked of the state in the records, which only the last one writes.
-use Prim.Native.Nat.{ℕ, _<_}
-use mathlib.Core.Path.{_≡_, refl, ap, subst, subst⁻¹, _∙_}
+use Prim.Native.Nat.{ℕ}
+use mathlib.Core.Path.{_≡_, refl}
 use mathlib.Core.Bool.{true}
 use mathlib.Core.List.{List}
 use borrow.Author.Needs.{needs}
 use lib.ListN.{length}
 use Rattle.words.proofs.Tests.{held, refuted}
 use Rattle.records.specs.declared.refusal.Verdict.the-variants.{Pass}
-use Rattle.memory.specs.Memory.{slotCount}
 use Rattle.state.specs.State.{called}
-use Rattle.state.specs.declared.state.State.{State}
-use Rattle.state.proofs.Whole.{Whole, whole}
-use Rattle.upload.specs.Upload.{Lent, lent, Request, request, requestRules, roomBy, recordFor, withUploaded, uploaded}
+use Rattle.state.proofs.Whole.{Whole}
+use Rattle.upload.specs.Upload.{Lent, lent, Request, request, requestRules, roomBy, uploaded}
 use Rattle.upload.proofs.StageLaws.{refused-request, ready, refused-payload, enterable, accepted}
 use Rattle.state_bytes.specs.Stored.{stateIn, isState}
 use Rattle.calls.specs.Changes.{uploadTold}
-use Rattle.state_bytes.proofs.Laws.{state-length}
+use Rattle.state_bytes.proofs.Laws.{state-length, whole-in}
 use Rattle.calls.proofs.Laws.{told-invalid, refused-told, refused-kept}
 use Rattle.calls.proofs.UploadLaws.{uploads-told, call-told, refusal-told}
 use Rattle.calls.proofs.uploading.upload.Statement.{statement}
@@ -46,23 +44,17 @@ module _ (c : tie.Else1) where
 
 -- the rules up to the slot were asked of that state
 module _ (c : tie.After-room-for) where
-  abbrev loading : tie.After-load
-  loading = c .before
-
   abbrev right : tie.Else1
-  right = loading .before .before
+  right = c .before .before
 
   found :
       c .room-for .result
       ≡ roomBy (stateIn (records right))
       (requestRules (stateIn (records right)) (length (given right .arena)) (length (given right .ids)) (asked right .name) (asked right .list))
-  found =
-      c .room-for .ensures
-      ∙ ap (λ (s : State). roomBy s (requestRules s (length (given right .arena)) (length (given right .ids)) (asked right .name) (asked right .list)))
-      (loading .load .ensures)
+  found = c .room-for .ensures
 
   known : Whole (stateIn (records right))
-  known = subst Whole (loading .load .ensures) (whole (loading .load .result) _ (loading .load .ok))
+  known = whole-in _ (state-length _ (is-state right))
 
 returns-2 : tie.Need-returns-2
 returns-2 c =
@@ -101,7 +93,7 @@ returns-3 c =
 
 enter-requires : tie.Need-enter-requires
 enter-requires c κs =
-    let accepting = c .before .before .before in
+    let accepting = c .before .before in
     let preparing = accepting .before .before .before .before in
     let here = sound preparing in
     let can =
@@ -109,24 +101,20 @@ enter-requires c κs =
     (preparing .before .before .config .ensures)
     (preparing .prepare-in .ensures)
     (accepting .enum-told2 .given .1) in
-    ((subst⁻¹ (λ (s : State). s .count < slotCount) (c .before .load2 .ensures) (can .0 .0), can .0 .1, can .0 .2), can .1)
+    ((is-state here, can .0 .0, can .0 .1, can .0 .2), can .1)
 
 returns-4 : tie.Need-returns-4
 returns-4 c =
-    let entering = c .before .before .before .before .before .before in
-    let again = entering .before .before in
-    let accepting = again .before .before in
+    let entering = c .before .before .before .before in
+    let accepting = entering .before .before .before in
     let preparing = accepting .before .before .before .before in
     let here = sound preparing in
-    call-told (records here) (given here) (asked here) (uploaded (called Pass _) (lent _ _)) (is-state here) refl (c .before .before .store .ensures)
+    call-told (records here) (given here) (asked here) (uploaded (called Pass _) (lent _ _)) (is-state here) refl (entering .enter .ensures .0)
     (accepted _ (given here) (asked here) (found (finding preparing)) (roomy preparing .enum-told .given .1)
     (preparing .before .before .config .ensures)
     (preparing .prepare-in .ensures)
     (accepting .enum-told2 .given .1)
-    (subst
-    (λ (s : State). entering .enter .result ≡ withUploaded s (recordFor (asked here .name) (finding preparing .room-for .result .slot) (preparing .prepare-in .result)))
-    (again .load2 .ensures)
-    (entering .enter .ensures .0))
+    refl
     (entering .enter .ensures .1))
 
 pub upload-spec : {M : Type 1} → statement M
@@ -139,7 +127,6 @@ upload-spec =
     (λ c. search needs)
     returns
     (λ c κs. state-length _ (is-state (c .before)))
-    (λ c κs. search needs)
     (λ c. search needs)
     (λ c κs. search needs)
     (λ c. search needs)
@@ -153,9 +140,7 @@ upload-spec =
     (λ c. search needs)
     returns-3
     (λ c. search needs)
-    (λ c κs. state-length _ (is-state (sound (c .before .before .before .before .before))))
     enter-requires
-    (λ c κs. state-length _ (is-state (sound (c .before .before .before .before .before .before .before .before .before .before .before))))
     (λ c. search needs)
     (λ c. search needs)
     (λ c. search needs)

@@ -59,7 +59,7 @@ returns-4 c =
       held (named .before .is-name .ensures) (named .if2 .left),
       ← found .with-name .ensures,
       known .before .i .given .1,
-      c .result-word .ensures,
+      c .answer .ensures,
       copied-payload (whole (start .args .t1) _ (start .good .0)) _ (inside known),
     )
 

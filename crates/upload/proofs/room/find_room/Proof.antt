@@ -1,11 +1,9 @@
--- `room::find_room` meets its contract: the first rule that is broken decides, else the lowest free slot.
+-- `room::find_room` meets its contract: the first rule that is broken decides, else the free slot.
 use mathlib.Core.Path.{_≡_}
-use mathlib.Core.Bool.{true, false}
-use Rattle.words.specs.Name.{isFound}
+use mathlib.Core.Bool.{true}
 use Rattle.words.proofs.Tests.{held, refuted}
 use Rattle.records.specs.Name.{isName}
 use Rattle.symbols.specs.SymbolList.{valid}
-use Rattle.state.specs.Find.{withName}
 use Rattle.upload.specs.Upload.{roomRules}
 use borrow.Author.Needs.{needs}
 use Rattle.upload.proofs.room.find_room.Statement.{statement}
@@ -13,11 +11,11 @@ use Rattle.upload.proofs.room.find_room.Tie as tie
 
 returns : tie.Need-returns
 unfolding roomRules
-returns c = rw (refuted (c .before .before .is-name .ensures) (c .before .if1 .taken)) (c .refuse .ensures)
+returns c s same room = rw (refuted (c .before .before .is-name .ensures) (c .before .if1 .taken)) (c .refuse .ensures)
 
 returns-2 : tie.Need-returns-2
 unfolding roomRules
-returns-2 c =
+returns-2 c s same room =
     let named = c .before .before .before in
     rw (held (named .before .is-name .ensures) (named .if1 .left), refuted (c .before .before .is-valid .ensures) (c .before .if2 .taken))
     (c .refuse2 .ensures)
@@ -35,31 +33,23 @@ module _ (c : tie.Else2) where
 
 returns-3 : tie.Need-returns-3
 unfolding roomRules
-returns-3 c =
-    let naming = c .before .before .before in
-    rw (named (naming .before), listed (naming .before), ← naming .with-name .ensures, c .before .enum-told .given .1) (c .refuse3 .ensures)
-
--- and the name is not loaded
-module _ (c : tie.After-enum-told2) where
-  abbrev right : tie.Else2
-  right = c .before .before .before
-
-  new : isFound (withName (begun right .args .state) (begun right .args .name .now)) ≡ false
-  new = rw (← c .before .before .with-name .ensures, c .enum-told2 .given .1)
+returns-3 c s same room =
+    let right = c .before .before .before in
+    rw (named right, listed right, ← same, c .before .enum-told .given .1) (c .refuse3 .ensures)
 
 returns-4 : tie.Need-returns-4
 unfolding roomRules
-returns-4 c =
-    let freeing = c .before .before .before in
-    let here = freeing .before in
-    rw (named (right here), listed (right here), new here, ← freeing .free-slot .ensures, c .before .enum-told3 .given .1) (c .refuse4 .ensures)
+returns-4 c s same room =
+    let new = c .before .before .before in
+    let right = new .before .before in
+    rw (named right, listed right, ← same, new .enum-told2 .given .1, ← room, c .before .enum-told3 .given .1) (c .refuse4 .ensures)
 
 returns-5 : tie.Need-returns-5
 unfolding roomRules
-returns-5 c =
-    let freeing = c .before .before .before in
-    let here = freeing .before in
-    rw (named (right here), listed (right here), new here, ← freeing .free-slot .ensures, c .before .slot .given .1)
+returns-5 c s same room =
+    let new = c .before .before .before in
+    let right = new .before .before in
+    rw (named right, listed right, ← same, new .enum-told2 .given .1, ← room, c .before .free .given .1)
 
 pub find-room-spec : {M : Type 1} → statement M
 find-room-spec =
@@ -71,12 +61,10 @@ find-room-spec =
     (λ c κs. search needs)
     (λ c κs. search needs)
     returns-2
-    (λ c κs. search needs)
     (λ c. search needs)
     (λ c κs. search needs)
     returns-3
     (λ c. search needs)
-    (λ c κs. search needs)
     (λ c. search needs)
     (λ c. search needs)
     (λ c κs. search needs)

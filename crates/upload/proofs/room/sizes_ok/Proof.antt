@@ -9,15 +9,15 @@ use Rattle.upload.proofs.room.sizes_ok.Tie as tie
 
 returns : tie.Need-returns
 unfolding uploadSizesOk
-returns c = simp (refuted (c .before .in-range .ensures) (c .if1 .taken))
+returns c s same = simp (refuted same (c .if1 .taken))
 
 returns-2 : tie.Need-returns-2
 unfolding uploadSizesOk
-returns-2 c = simp (ne-eqb _ _ (c .if2 .taken), and-false)
+returns-2 c s same = simp (ne-eqb _ _ (c .if2 .taken), and-false)
 
 returns-3 : tie.Need-returns-3
 unfolding uploadSizesOk
-returns-3 c = simp (held (c .before .before .in-range .ensures) (c .before .if1 .left), eq-eqb _ _ (c .if2 .left))
+returns-3 c s same = simp (held same (c .before .if1 .left), eq-eqb _ _ (c .if2 .left))
 
 pub sizes-ok-spec : {M : Type 1} → statement M
-sizes-ok-spec = tie.close (tie.spec (λ c κs. search needs) returns returns-2 returns-3)
+sizes-ok-spec = tie.close (tie.spec returns returns-2 returns-3)
