@@ -32,6 +32,9 @@ use Rattle.state.specs.State.{
   noJob,
   isStanding,
   withResult,
+  withPayloads,
+  withCount,
+  withVersion,
   withJob,
 }
 use Rattle.state.specs.declared.state.Called.{Called}
@@ -151,18 +154,10 @@ jobBegun s q =
 unfoldable pub removedAt : ℕ → List Payload → List Payload
 removedAt i ps = take i ps ++ drop (suc i) ps ++ (empty ∷ [])
 
+-- "Version .. grows by 1 modulo 2^32 at each accepted upload or unload"
 abbrev pub unloadedAt : State → Found → State
 unloadedAt s (At i) =
-    record {
-      config = s .config;
-      -- "grows by 1 modulo 2^32 at each accepted upload or unload"
-      version = (s .version + 1) % 2 ^ 32;
-      count = s .count - 1;
-      payloads = removedAt i (s .payloads);
-      depth = s .depth;
-      stack = s .stack;
-      job = s .job;
-    }
+    withVersion ((s .version + 1) % 2 ^ 32) (withCount (s .count - 1) (withPayloads (removedAt i (s .payloads)) s))
 unloadedAt s Nothing = s
 
 -- "Unload is done at once and zeroes the slot and its store entries."

@@ -53,7 +53,5 @@ pub fn enter(b: &mut [u8], ids: &mut [u8], name: &[u8], slot: usize, prepared: P
     ensures { λ r. ⌜ HoldsState (withUploaded (stateIn (now (b .entry))) (recordFor (now (name .entry)) slot prepared)) (now (b .exit)) ⌝ }
     ensures { λ r. ⌜ now (ids .exit) ≡ splice (now (ids .entry)) (idAt slot) (prepared .id .bytes) ⌝ }
 {
-    let id = prepared.id;
-    enter::write_id(ids, slot, &id.bytes);
-    append(b, enter::record_for(name, slot as u32, prepared));
+    append(b, enter::register(ids, name, slot, prepared));
 }

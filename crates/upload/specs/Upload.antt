@@ -24,7 +24,7 @@ use Rattle.symbols.specs.SymbolList.{valid}
 use Rattle.memory.specs.Config.{hostFor}
 use Rattle.memory.specs.Memory.{slotAt, arenaSize, idAt, idsSize}
 use Rattle.state.specs.Find.{withName, freeSlot}
-use Rattle.state.specs.State.{checked}
+use Rattle.state.specs.State.{checked, withPayloads, withCount, withVersion}
 use Rattle.state.specs.declared.state.Called.{Called}
 use Rattle.state.specs.declared.state.State.{State}
 use Rattle.ranges.specs.Ranges.{inRange}
@@ -121,15 +121,7 @@ recordFor name slot p =
 -- it is put last in the list; "Version .. grows by 1 modulo 2^32 at each accepted upload or unload"
 abbrev pub withUploaded : State → Payload → State
 withUploaded s p =
-    record {
-      config = s .config;
-      version = (s .version + 1) % 2 ^ 32;
-      count = s .count + 1;
-      payloads = set (s .payloads) (s .count) p;
-      depth = s .depth;
-      stack = s .stack;
-      job = s .job;
-    }
+    withVersion ((s .version + 1) % 2 ^ 32) (withCount (s .count + 1) (withPayloads (set (s .payloads) (s .count) p) s))
 
 -- ---- the call: the answer, the state, and what arena and id store then hold
 

@@ -11,7 +11,7 @@ use records::payload::Payload;
 use state::state::State;
 
 // The id, and zeros after it, as entry `slot` of the id store.
-pub fn write_id(ids: &mut [u8], slot: usize, id: &[u8; Payload::ID_MAX])
+fn write_id(ids: &mut [u8], slot: usize, id: &[u8; Payload::ID_MAX])
     requires { ⌜ idAt slot + idMax ≤ length (now ids) ⌝ }
     ensures { λ r. ⌜ now (ids .exit) ≡ splice (now (ids .entry)) (idAt slot) (now (id .entry)) ⌝ }
 {
@@ -19,7 +19,7 @@ pub fn write_id(ids: &mut [u8], slot: usize, id: &[u8; Payload::ID_MAX])
 }
 
 // The record of a payload that was prepared for this slot.
-pub fn record_for(name: &[u8], slot: u32, prepared: Prepared) -> Payload
+fn record_for(name: &[u8], slot: u32, prepared: Prepared) -> Payload
     requires { ⌜ (length (now name) ≤ nameMax) × (prepared .«edit_count» ≤ recordsMax) ⌝ }
     ensures { λ r. ⌜ r ≡ recordFor (now (name .entry)) slot prepared ⌝ }
 {
@@ -34,6 +34,18 @@ pub fn record_for(name: &[u8], slot: u32, prepared: Prepared) -> Payload
     one.edits = edits;
     one.edit_count = prepared.edit_count as u32;
     one
+}
+
+// The record of the payload that was prepared for this slot, under `name`; its id is written to the id store.
+pub fn register(ids: &mut [u8], name: &[u8], slot: usize, prepared: Prepared) -> Payload
+    requires { ⌜ (slot < slotCount) × (length (now ids) ≡ idsSize) ⌝ }
+    requires { ⌜ (length (now name) ≤ nameMax) × (prepared .«edit_count» ≤ recordsMax) ⌝ }
+    ensures { λ r. ⌜ r ≡ recordFor (now (name .entry)) slot prepared ⌝ }
+    ensures { λ r. ⌜ now (ids .exit) ≡ splice (now (ids .entry)) (idAt slot) (prepared .id .bytes) ⌝ }
+{
+    let id = prepared.id;
+    write_id(ids, slot, &id.bytes);
+    record_for(name, slot as u32, prepared)
 }
 
 // The state with one payload more.
@@ -56,7 +68,5 @@ pub fn enter(state: State, ids: &mut [u8], name: &[u8], slot: usize, prepared: P
     ensures { λ r. ⌜ r ≡ withUploaded state (recordFor (now (name .entry)) slot prepared) ⌝ }
     ensures { λ r. ⌜ now (ids .exit) ≡ splice (now (ids .entry)) (idAt slot) (prepared .id .bytes) ⌝ }
 {
-    let id = prepared.id;
-    write_id(ids, slot, &id.bytes);
-    with_uploaded(state, record_for(name, slot as u32, prepared))
+    with_uploaded(state, register(ids, name, slot, prepared))
 }

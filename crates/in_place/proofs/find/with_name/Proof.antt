@@ -6,7 +6,6 @@ use lib.ListN.{length, getD, drop}
 use Rattle.words.specs.Find.{whereFrom}
 use Rattle.words.proofs.Find.{where-turn, where-end}
 use Rattle.records.specs.Payload.{empty}
-use Rattle.memory.specs.Memory.{slotCount}
 use Rattle.state.specs.Find.{isNamed, withName}
 use Rattle.state.specs.State.{loaded}
 use Rattle.state.specs.declared.state.State.{State}

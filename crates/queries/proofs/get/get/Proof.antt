@@ -1,67 +1,67 @@
 -- `get::get` meets its contract: the first check that fails decides, and else the payload that was found.
 use Prim.Native.Nat.{_<_}
-use mathlib.Core.Path.{_≡_, sym, _∙_}
+use mathlib.Core.Path.{_≡_, sym, ap, _∙_}
 use mathlib.Core.Bool.{true}
 use native.Mathlib.Omega.{arith}
 use borrow.Author.Needs.{needs}
 use Rattle.words.proofs.Tests.{held, refuted}
+use Rattle.records.specs.Name.{isName}
 use Rattle.memory.specs.Memory.{slotCount}
 use Rattle.state.proofs.Whole.{whole, copied-payload}
 use Rattle.ranges.specs.Ranges.{inRange}
 use Rattle.ranges.proofs.Laws.{in-range}
-use Rattle.queries.specs.Get.{getRules, getOf}
-use Rattle.queries.proofs.GetLaws.{name-hit}
+use Rattle.queries.specs.Get.{got}
+use Rattle.queries.proofs.GetLaws.{name-hit, get-out, get-unnamed, get-missing, get-found}
 use Rattle.queries.proofs.get.get.Statement.{statement}
 use Rattle.queries.proofs.get.get.Tie as tie
 
 returns : tie.Need-returns
-unfolding getOf getRules
-returns c = rw (refuted (c .before .before .in-range .ensures) (c .before .if1 .taken)) (c .refuse .ensures)
+returns c = c .refuse .ensures ∙ get-out _ _ (refuted (c .before .before .in-range .ensures) (c .before .if1 .taken))
 
-right : (c : tie.Else1) → inRange (c .before .before .before .args .t1) ≡ true
-right c = held (c .before .in-range .ensures) (c .if1 .left)
+module _ (c : tie.Else1) where
+  abbrev start : tie.Start
+  start = c .before .before .before
+
+  right : inRange (start .args .t1) ≡ true
+  right = held (c .before .in-range .ensures) (c .if1 .left)
 
 returns-2 : tie.Need-returns-2
-unfolding getOf getRules
-returns-2 c = rw (right (c .before .before .before), refuted (c .before .before .is-name .ensures) (c .before .if2 .taken)) (c .refuse2 .ensures)
+returns-2 c =
+    c .refuse2 .ensures
+    ∙ get-unnamed _ _ (right (c .before .before .before)) (refuted (c .before .before .is-name .ensures) (c .before .if2 .taken))
+
+-- the name is one
+module _ (c : tie.Else2) where
+  abbrev ranged : tie.Else1
+  ranged = c .before .before
+
+  named : isName (start ranged .args .name .now) ≡ true
+  named = held (c .before .is-name .ensures) (c .if2 .left)
 
 returns-3 : tie.Need-returns-3
-unfolding getOf getRules
 returns-3 c =
-    let named = c .before .before .before .before in
-    rw (
-      right (named .before .before),
-      held (named .before .is-name .ensures) (named .if2 .left),
-      ← c .before .before .before .with-name .ensures,
-      c .before .enum-told .given .1,
-    )
-    (c .refuse3 .ensures)
+    let finding = c .before .before .before in
+    let two = finding .before in
+    c .refuse3 .ensures
+    ∙ get-missing _ _ (right (ranged two)) (named two) (sym (finding .with-name .ensures) ∙ c .before .enum-told .given .1)
 
 -- what was found is in the list
 inside : (c : tie.After-known-told) → c .before .i .given .0 .0 < slotCount
 inside c =
     let found = c .before .before .before in
-    let ranged = found .before .before .before in
-    let start = ranged .before .before .before in
-    let w = whole (start .args .t1) _ (start .good .0) in
-    let hit = name-hit (start .args .t1) _ _ (sym (found .with-name .ensures) ∙ c .before .i .given .1) in
-    omega (arith, hit, in-range w (right ranged) .few)
+    let here = ranged (found .before) in
+    let hit = name-hit (start here .args .t1) _ _ (sym (found .with-name .ensures) ∙ c .before .i .given .1) in
+    omega (arith, hit, in-range (whole (start here .args .t1) _ (start here .good .0)) (right here) .few)
 
 returns-4 : tie.Need-returns-4
-unfolding getOf getRules
 returns-4 c =
     let known = c .before .before in
-    let found = known .before .before .before in
-    let named = found .before in
-    let start = named .before .before .before .before .before in
-    rw (
-      right (named .before .before),
-      held (named .before .is-name .ensures) (named .if2 .left),
-      ← found .with-name .ensures,
-      known .before .i .given .1,
-      c .answer .ensures,
-      copied-payload (whole (start .args .t1) _ (start .good .0)) _ (inside known),
-    )
+    let finding = known .before .before .before in
+    let two = finding .before in
+    let begun = start (ranged two) in
+    c .answer .ensures
+    ∙ ap got (copied-payload (whole (begun .args .t1) _ (begun .good .0)) _ (inside known))
+    ∙ get-found _ _ (right (ranged two)) (named two) _ (sym (finding .with-name .ensures) ∙ known .before .i .given .1)
 
 pub get-spec : {M : Type 1} → statement M
 get-spec =

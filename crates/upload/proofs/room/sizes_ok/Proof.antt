@@ -3,7 +3,6 @@ use mathlib.Core.Bool.{and-false}
 use borrow.Author.Tests.{eq-eqb, ne-eqb}
 use Rattle.words.proofs.Tests.{held, refuted}
 use Rattle.upload.specs.Upload.{uploadSizesOk}
-use borrow.Author.Needs.{needs}
 use Rattle.upload.proofs.room.sizes_ok.Statement.{statement}
 use Rattle.upload.proofs.room.sizes_ok.Tie as tie
 
