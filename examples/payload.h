@@ -25,7 +25,8 @@ struct change {
     uint32_t new_size;
 };
 
-enum { ID_SIZE = 4, CHANGES_MAX = 16, PAYLOAD_MAX = 8192 };
+/* Four parts may be as long as the records; the others, the header and the section table have less than two of these together. */
+enum { ID_SIZE = 4, CHANGES_MAX = 32, PART_MAX = 64 * CHANGES_MAX, PAYLOAD_MAX = 6 * PART_MAX };
 
 struct patch {
     uint8_t id[ID_SIZE], depends[ID_SIZE];
@@ -35,7 +36,7 @@ struct patch {
 
 /* A part of the file that grows. */
 struct part {
-    uint8_t bytes[CHANGES_MAX * 64];
+    uint8_t bytes[PART_MAX];
     size_t len;
 };
 

@@ -36,7 +36,7 @@ static void print_accepted(const uint8_t *edits, const uint8_t *summary)
     unsigned count = (unsigned)little(summary + 4, 4);
     printf("accepted: %u bytes placed, %u edit%s\n", (unsigned)little(summary, 4), count, count == 1 ? "" : "s");
     print_line("id", summary + 16, little(summary + 8, 4));
-    print_line("depends on", summary + 48, little(summary + 12, 4));
+    print_line("depends on", summary + 16 + URDDOLWY_BUILD_ID_MAX, little(summary + 12, 4));
     for (unsigned i = 0; i < count; i++) {
         const uint8_t *e = edits + i * URDDOLWY_EDIT_SIZE;
         printf("edit at %llx", (unsigned long long)little(e, 8));

@@ -63,17 +63,28 @@ enum urddolwy_place {
  * tests/library/run measures it. */
 #define URDDOLWY_CHECK_SYMBOLS_STACK 1024
 #define URDDOLWY_CHECK_FILE_STACK 16384
-#define URDDOLWY_PREPARE_STACK 35840
+#define URDDOLWY_PREPARE_STACK 53248
 #define URDDOLWY_RECORDS_SIZE_STACK 1024
-#define URDDOLWY_START_STACK 10240
-#define URDDOLWY_UPLOAD_STACK 35840
-#define URDDOLWY_GET_STACK 2048
-#define URDDOLWY_LIST_STACK 16384
-#define URDDOLWY_ACTION_STACK 29696
-#define URDDOLWY_REPORT_STACK 2048
-#define URDDOLWY_TICK_STACK 2048
-#define URDDOLWY_WORK_STACK 2048
-#define URDDOLWY_TOP_BUILD_ID_STACK 20480
+#define URDDOLWY_START_STACK 17408
+#define URDDOLWY_UPLOAD_STACK 54272
+#define URDDOLWY_GET_STACK 3072
+#define URDDOLWY_LIST_STACK 26624
+#define URDDOLWY_ACTION_STACK 50176
+#define URDDOLWY_REPORT_STACK 3072
+#define URDDOLWY_TICK_STACK 3072
+#define URDDOLWY_WORK_STACK 3072
+#define URDDOLWY_TOP_BUILD_ID_STACK 33792
+
+/* The limits; the sizes of buffers below are computed from them. Of a payload: its function records, each of which asks for one edit; the
+ * bytes of an id (its own, that of its dependency, the hypervisor's), of its slot, and of its name with the ending zero. Then the bytes
+ * of the text, and how many payloads and CPUs there may be. tests/c/run holds limits and sizes against the library. */
+#define URDDOLWY_EDITS 32
+#define URDDOLWY_BUILD_ID_MAX 64
+#define URDDOLWY_IMAGE_SIZE 8192
+#define URDDOLWY_NAME_SIZE 128
+#define URDDOLWY_TEXT_MAX 16777216
+#define URDDOLWY_PAYLOADS 8
+#define URDDOLWY_CPUS_MAX 64
 
 /* ---- A payload by itself: no memory is lent, nothing is kept. */
 
@@ -84,20 +95,19 @@ uint64_t urddolwy_check_symbols(const uint8_t *list, size_t list_len);
  * the headers of its relocation sections and its two notes. 0, or the first rule that is broken. */
 uint64_t urddolwy_check_file(const uint8_t *file, size_t file_len);
 
-/* The sizes of the buffers of urddolwy_prepare, in bytes: the image, an entry of the edits and their number, the summary. */
-#define URDDOLWY_IMAGE_SIZE 8192
-#define URDDOLWY_EDITS 16
+/* The sizes of the buffers of urddolwy_prepare, in bytes: URDDOLWY_IMAGE_SIZE for the image; URDDOLWY_EDITS entries of this size for the
+ * edits; the summary. */
 #define URDDOLWY_EDIT_SIZE 48
-#define URDDOLWY_SUMMARY_SIZE 80
+#define URDDOLWY_SUMMARY_SIZE (16 + 2 * URDDOLWY_BUILD_ID_MAX)
 
 /* Prepares a payload for the slot at `slot_base`, against the text of `text_len` bytes at `text_base` and the symbol list. It says
  * what an upload would place and what its function records would change, and changes nothing else.
  *
  * Accepted, it returns 0 and writes
  *   image    the slot's 8,192 bytes
- *   edits    16 entries of 48 bytes: address (8 bytes, little-endian), length (4), then the edit's bytes, zeros after them
+ *   edits    32 entries of 48 bytes: address (8 bytes, little-endian), length (4), then the edit's bytes, zeros after them
  *   summary  placed length, number of edits, length of the id, length of the dependency (4 bytes each, little-endian), then the
- *            id and the dependency in 32 bytes each, zeros after them
+ *            id and the dependency in 64 bytes each, zeros after them
  * Refused, it returns the refusal and leaves all three as they were. Buffers of other sizes, a text or slot that does not end at
  * 2^64 or before, a text of no byte or over 16,777,216, a slot at 0, at no multiple of 4,096 or with a byte of the text, and bytes that are
  * no symbol list get 22, nowhere. */
@@ -111,17 +121,17 @@ uint64_t urddolwy_prepare(const uint8_t *file, size_t file_len, const uint8_t *s
  *   text      1 to 16,777,216 bytes: the hypervisor's code. Written by urddolwy_work alone
  *   arena     65,536 bytes at a multiple of 4,096, not 0 and apart from the text: eight slots of 8,192 for payloads. Code runs there,
  *             at the addresses that begin at arena_base; lay it within 2 GiB of the text, so that jumps and calls reach
- *   undo      the undo store, 3,968 bytes: the text that edits have covered
- *   ids       the id store, 256 bytes: the ids of the payloads
- *   build_id  the hypervisor's build-id, 1 to 32 bytes, always the same
- *   records   4,228 bytes: all that the loader keeps between two calls
+ *   undo      the undo store, 7,936 bytes: the text that edits have covered
+ *   ids       the id store, 512 bytes: the ids of the payloads
+ *   build_id  the hypervisor's build-id, 1 to 64 bytes, always the same
+ *   records   7,044 bytes: all that the loader keeps between two calls
  * Only the calls write arena, undo, ids and records; but the code of a payload may write its own data in its slot. Of the text
  * nobody else may write what a payload's edits cover.
  *
  * Records are to be kept, once, and handed on: an older copy put back does not fit the memory any more. Their layout, for those who
  * look at them in a dump, stands in docs/integrators.md; in short, little-endian: start-up's numbers (32 bytes), the numbers of
  * payloads loaded and applied (8 each), the version (4), the job (16, and a byte for each of 64 CPUs), the applied slots (8 of 4),
- * then eight payloads of 508 bytes in upload order.
+ * then eight payloads of 860 bytes in upload order.
  *
  * The first check of every call is that of its buffers and records: a buffer of another size than the one named for it (a text or
  * build-id of another length than at start-up), or records that hold a number out of its range, get 22, nowhere. Records of zeros are
@@ -130,19 +140,16 @@ uint64_t urddolwy_prepare(const uint8_t *file, size_t file_len, const uint8_t *s
  * A refusal changes no byte of any buffer, but for one case: where urddolwy_action refuses with 22 for a payload's status, or with 33,
  * it sets that payload's last result to -22 or -33. `out` is written by accepted calls alone. */
 
-/* The sizes of what is lent, in bytes. */
-#define URDDOLWY_TEXT_MAX 16777216
-#define URDDOLWY_ARENA_SIZE 65536
-#define URDDOLWY_UNDO_SIZE 3968
-#define URDDOLWY_IDS_SIZE 256
-#define URDDOLWY_BUILD_ID_MAX 32
-#define URDDOLWY_RECORDS_SIZE 4228
-/* How many payloads and CPUs there may be. */
-#define URDDOLWY_PAYLOADS 8
-#define URDDOLWY_CPUS_MAX 64
-/* The size of one entry in each of the three buffers of urddolwy_list; a name has at most that size, its ending zero counted. */
+/* The sizes of what is lent, in bytes: a slot for each payload; 31 bytes for each of its edits; its id; and the records: numbers, a byte
+ * for each CPU, the applied slots, then for each payload its name, seven numbers, its dependency and its edits of 20 bytes. */
+#define URDDOLWY_ARENA_SIZE (URDDOLWY_PAYLOADS * URDDOLWY_IMAGE_SIZE)
+#define URDDOLWY_UNDO_SIZE (URDDOLWY_PAYLOADS * URDDOLWY_EDITS * 31)
+#define URDDOLWY_IDS_SIZE (URDDOLWY_PAYLOADS * URDDOLWY_BUILD_ID_MAX)
+#define URDDOLWY_RECORDS_SIZE \
+    (68 + URDDOLWY_CPUS_MAX + 4 * URDDOLWY_PAYLOADS + \
+     URDDOLWY_PAYLOADS * (URDDOLWY_NAME_SIZE + 7 * 4 + URDDOLWY_BUILD_ID_MAX + 20 * URDDOLWY_EDITS))
+/* The sizes of one entry in the buffers of urddolwy_list, in bytes: URDDOLWY_NAME_SIZE for a name, and these for the other two. */
 #define URDDOLWY_STATUS_SIZE 8
-#define URDDOLWY_NAME_SIZE 128
 #define URDDOLWY_LENGTH_SIZE 4
 /* The size of `out`. */
 #define URDDOLWY_GET_OUT_SIZE 8
@@ -221,7 +228,7 @@ uint64_t urddolwy_list(const uint8_t *records, size_t records_len, uint32_t idx,
  *      reported: urddolwy_report, once or more.
  *   3. Meanwhile urddolwy_tick for each unit of time that passes. The last tick ends the job: result -16, status as before, text as
  *      before. Let all CPUs go, and try again later with another action.
- *   4. When all are reported, urddolwy_work, until the job has ended: it makes one edit with each call, 128 at most, and the call
+ *   4. When all are reported, urddolwy_work, until the job has ended: it makes one edit with each call, 256 at most, and the call
  *      with the last edit ends the job. Its end shows in urddolwy_get and urddolwy_list: the result is no longer -11. Another call of
  *      urddolwy_work would be refused with 22, and nothing changed: there is no job.
  *   5. Let all CPUs go, each after it has serialised its instruction stream.

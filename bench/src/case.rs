@@ -3,13 +3,14 @@
 
 use crate::library::{library, records_size};
 use crate::timing::{in_turn, Timed, Times};
+use differential::second::limits::{ARENA, IDS, UNDO};
 use differential::second::refusal::in_words;
 use differential::sequences::loader::second;
 use differential::sequences::{Does, Loader, Session, World};
 use std::rc::Rc;
 
 /// The sizes of arena, undo store and id store.
-const SIZES: [usize; 3] = [65_536, 3_968, 256];
+const SIZES: [usize; 3] = [ARENA, UNDO, IDS];
 /// The sizes of the list's buffers for eight payloads.
 pub const ROOM: [usize; 3] = [64, 1_024, 32];
 

@@ -1,14 +1,14 @@
 //! How the time of an upload grows: with the file, with its relocations, with the names in the list.
 
 use crate::case::Case;
-use crate::largest::FILE;
 use crate::plan::{self, Plan, LEAST, LOOKED_UP};
 use crate::scenes::{host, loaded, upload};
 use crate::show::{print_head, print_line};
+use differential::second::limits::{FILE, RECORDS};
 use differential::sequences::World;
 use std::rc::Rc;
 
-const FILES: [usize; 5] = [0, 2_048, 4_096, 8_192, FILE];
+const FILES: [usize; 6] = [0, 2_048, 4_096, 8_192, 16_384, FILE];
 const RELOCATIONS: [usize; 4] = [0, 100, 300, 600];
 const NAMES: [usize; 5] = [10, 100, 1_000, 4_000, 20_000];
 
@@ -20,7 +20,7 @@ struct Table {
 }
 
 fn tables() -> [Table; 3] {
-    let large = Plan { records: 16, file: FILE, ..LEAST };
+    let large = Plan { records: RECORDS, file: FILE, ..LEAST };
     let files = FILES.iter().map(|&file| Plan { file, ..LEAST });
     let relocations = RELOCATIONS.iter().map(|&relocations| (relocations, Plan { relocations, ..large }));
     let names = NAMES.iter().map(|&names| (names, Plan { names, relocations: 300, ..large }));
@@ -31,12 +31,14 @@ fn tables() -> [Table; 3] {
             plans: files.map(|plan| (plan.payload().file.len(), plan)).collect(),
         },
         Table {
-            title: format!("upload by relocations ({FILE} bytes, 16 records, 10 names, {LOOKED_UP} looked up):"),
+            title: format!("upload by relocations ({FILE} bytes, {RECORDS} records, 10 names, {LOOKED_UP} looked up):"),
             unit: "relocations",
             plans: relocations.collect(),
         },
         Table {
-            title: format!("upload by names ({FILE} bytes, 16 records, 300 relocations, {LOOKED_UP} names looked up):"),
+            title: format!(
+                "upload by names ({FILE} bytes, {RECORDS} records, 300 relocations, {LOOKED_UP} looked up):"
+            ),
             unit: "names",
             plans: names.collect(),
         },

@@ -9,6 +9,7 @@ use crate::timing::{in_turn, Timed, Times};
 use differential::second::calls::state::{APPLY, REPLACE};
 use differential::second::calls::state_of;
 use differential::second::calls::steps::{steps, Step};
+use differential::second::limits::{RECORDS, SLOTS, UNDO_RECORD};
 use differential::sequences::Does;
 
 /// A jump that is laid, or taken off where there are no bytes for it.
@@ -38,7 +39,8 @@ impl Bare {
                 Step::Lay { .. } => Some(edit.bytes().try_into().ok()?),
                 Step::TakeOff { .. } => None,
             };
-            writes.push(Write { text: edit.offset as usize, saved: 31 * (16 * slot as usize + record), laid });
+            let saved = UNDO_RECORD * (RECORDS * slot as usize + record);
+            writes.push(Write { text: edit.offset as usize, saved, laid });
         }
         let (text, undo) = (memory.text.clone(), memory.undo.clone());
         Some(Bare { writes, kept: [text.clone(), undo.clone()], text, undo })
@@ -85,8 +87,8 @@ fn holds() -> [Hold; 3] {
     let world = host(plan::TEXT_LEN);
     [
         Hold { steps: 1, slot: 0, case: loaded(&world, 1, 1).after(held(0, APPLY)) },
-        Hold { steps: 16, slot: 0, case: loaded(&world, 1, 16).after(held(0, APPLY)) },
-        Hold { steps: 128, slot: 7, case: seven_applied(&world).after(held(7, REPLACE)) },
+        Hold { steps: RECORDS, slot: 0, case: loaded(&world, 1, RECORDS).after(held(0, APPLY)) },
+        Hold { steps: SLOTS * RECORDS, slot: 7, case: seven_applied(&world).after(held(7, REPLACE)) },
     ]
 }
 

@@ -1,41 +1,38 @@
-//! The largest payload: as large as the rules allow a file to be.
-//!
-//! 600 entries of 24 bytes leave no room for 100 symbols and 16 records in 16,384 bytes, so the entries stand in two runs
-//! in the file, and three relocation sections have each run as their contents. The rules let sections overlap in the
-//! file.
+//! The largest payload: file, placed bytes, records and ids are as many as the rules allow.
 
 use crate::pieces::{
-    bytes, functions, listed, run, share, spread, tables, targets, zero, List, Target, ARENA_BASE, TEXT_BASE, TYPES,
+    bytes, functions, listed, run, spread, tables, targets, zero, List, Target, ARENA_BASE, TEXT_BASE, TYPES,
 };
 use differential::payloads::assemble::input;
 use differential::payloads::draft::{Draft, Record, Ref, Relocation, Section, Symbol};
 use differential::payloads::Input;
 use differential::rng::Rng;
+use differential::second::limits::{BUFFERS, FILE, ID, RECORDS, SLOT};
 
 /// What a payload that is prepared has.
 #[derive(Clone, Copy)]
 pub struct Shape {
     /// Names in the symbol list.
     pub names: usize,
-    /// Entries of the two runs. Each counts three times.
-    pub runs: [usize; 2],
+    /// Entries of each of the six relocation sections that are not the records'.
+    pub run: usize,
     /// Symbols that are looked up in the list, of the half that can be; the others are absolute, with the same values.
     pub undefined: usize,
 }
 
-pub const FILE: usize = 16_384;
 pub const SYMBOLS: usize = 100;
-pub const RECORDS: usize = 16;
 /// Records whose function is given by name; those after them have an address.
-pub const BY_NAME: usize = 8;
+pub const BY_NAME: usize = 16;
 /// Records that ask for a jump; those after them ask for a fill.
-const JUMPS: usize = 13;
+const JUMPS: usize = 26;
+/// The bytes of new code that a jump leads to.
+const CODE_SIZE: usize = 16;
 
-pub const LARGEST: Shape = Shape { names: 4_000, runs: [96, 97], undefined: SYMBOLS / 2 };
+pub const LARGEST: Shape = Shape { names: 4_000, run: 93, undefined: SYMBOLS / 2 };
 
 impl Shape {
     pub fn relocations(&self) -> usize {
-        3 * (self.runs[0] + self.runs[1]) + JUMPS + BY_NAME
+        TARGETS.concat().len() * self.run + JUMPS + BY_NAME
     }
 }
 
@@ -87,7 +84,7 @@ fn records(used: &[(Vec<u8>, u64)]) -> (Vec<Record>, Vec<Relocation>, Vec<u8>) {
     let (mut records, mut entries, mut names) = (Vec::new(), Vec::new(), Vec::new());
     for at in 0..RECORDS {
         let offset = 64 * at as u64;
-        let mut record = Record::new(0, 0, 16, 64);
+        let mut record = Record::new(0, 0, CODE_SIZE as u32, 64);
         if at < BY_NAME {
             entries.push(Relocation { offset, kind: 1, symbol: NAMES, addend: names.len() as u64 });
             names.extend(&used[SYMBOLS / 2 + at].0);
@@ -97,7 +94,7 @@ fn records(used: &[(Vec<u8>, u64)]) -> (Vec<Record>, Vec<Relocation>, Vec<u8>) {
             record.old_addr = TEXT_BASE + 4096 * at as u64 + 2048;
         }
         if at < JUMPS {
-            entries.push(Relocation { offset: offset + 8, kind: 1, symbol: CODE, addend: 16 * at as u64 });
+            entries.push(Relocation { offset: offset + 8, kind: 1, symbol: CODE, addend: (CODE_SIZE * at) as u64 });
         }
         records.push(record);
     }
@@ -108,17 +105,29 @@ fn sections(shape: &Shape, used: &[(Vec<u8>, u64)]) -> Vec<Section> {
     let (records, record_entries, names) = records(used);
     let mut sections = vec![zero()];
     for at in 0..2 {
-        let (entries, size) = run(TYPES[at], shape.runs[at], at * shape.runs[0], SYMBOLS);
+        let run_of = |number| run(TYPES[at], shape.run, (3 * at + number) * shape.run, SYMBOLS);
         // a size that also holds the code and the symbols where there are few entries
-        sections.extend(targets(&TARGETS[at], size.max(256) as usize, &entries));
+        sections.extend(targets(&TARGETS[at], CODE_SIZE * JUMPS, run_of));
     }
     sections.extend([
         bytes("names", ".rodata.str1.1", 1, 0x32, names),
         functions(&records),
         Section::relocations("rela_funcs", b".rela.livepatch.funcs", Ref::To("funcs"), record_entries),
     ]);
-    sections.extend(tables(&[0xb1; 20], &[0xd0; 20]));
+    sections.extend(tables(&[0xb1; ID], &[0xd0; ID]));
+    sections.push(bytes("debug", ".debug_info", 1, 0, Vec::new()));
     sections
+}
+
+/// Fills the slot with code, and the file with bytes that are not placed.
+fn fill(draft: &mut Draft) {
+    let free = SLOT.saturating_sub(draft.placement().1 as usize);
+    let text = draft.bytes("text");
+    text.resize(text.len() + free, 0xcc);
+    let free = FILE.saturating_sub(input(draft).file.len());
+    draft.bytes("debug").resize(free, 0xdb);
+    let filled = (draft.placement().1 as usize, input(draft).file.len());
+    assert_eq!(filled, (SLOT, FILE), "the largest payload's slot and file are not filled");
 }
 
 /// All that a call gets for a payload of a shape. The file of the largest one has exactly `FILE` bytes.
@@ -138,14 +147,11 @@ pub fn payload(shape: &Shape) -> Input {
         text_base: TEXT_BASE,
         text_len: TEXT_LEN,
         slot_base: ARENA_BASE,
-        buffers: [8192, 768, 80],
+        buffers: BUFFERS,
         changes: Vec::new(),
     };
-    TARGETS.iter().for_each(|targets| share(&mut draft, targets));
-    if shape.runs == LARGEST.runs {
-        let len = input(&draft).file.len();
-        let text = draft.bytes("text");
-        text.resize(text.len() + FILE.saturating_sub(len), 0xcc);
+    if shape.run == LARGEST.run {
+        fill(&mut draft);
     }
     input(&draft)
 }

@@ -1,7 +1,6 @@
-//! What the bench's payloads are made of: symbol lists, runs of relocations, and relocation sections that share one.
+//! What the bench's payloads are made of: symbol lists, and sections with runs of relocations.
 
-use differential::payloads::assemble::section_field;
-use differential::payloads::draft::{Contents, Draft, Ref, Relocation, Section};
+use differential::payloads::draft::{Contents, Ref, Relocation, Section};
 use differential::payloads::template::{note, record_bytes};
 use differential::payloads::Record;
 use differential::rng::Rng;
@@ -66,25 +65,15 @@ pub fn run(types: &[u32], count: usize, first: usize, symbols: usize) -> (Vec<Re
 /// Role, name and flags of a section that a run relocates, and the role and name of its relocation section.
 pub type Target = (&'static str, &'static str, u64, &'static str, &'static str);
 
-/// Sections of so many bytes, and their relocation sections: the first has the entries.
-pub fn targets(targets: &[Target], size: usize, entries: &[Relocation]) -> Vec<Section> {
+/// Sections of so many bytes at least, and their relocation sections, each with the run of its number.
+pub fn targets(targets: &[Target], least: usize, run_of: impl Fn(usize) -> (Vec<Relocation>, u64)) -> Vec<Section> {
     let mut sections = Vec::new();
     for (number, (role, name, flags, rela_role, rela_name)) in targets.iter().enumerate() {
-        sections.push(aligned(16, bytes(role, name, 1, *flags, vec![0xcc; size])));
-        let own = if number == 0 { entries.to_vec() } else { Vec::new() };
-        sections.push(Section::relocations(rela_role, rela_name.as_bytes(), Ref::To(role), own));
+        let (entries, size) = run_of(number);
+        sections.push(aligned(16, bytes(role, name, 1, *flags, vec![0xcc; least.max(size as usize)])));
+        sections.push(Section::relocations(rela_role, rela_name.as_bytes(), Ref::To(role), entries));
     }
     sections
-}
-
-/// Gives the other relocation sections the first one's contents.
-pub fn share(draft: &mut Draft, targets: &'static [Target]) {
-    draft.then(move |assembled| {
-        for field in [section_field::OFFSET, section_field::SIZE] {
-            let value = assembled.get(targets[0].3, field);
-            targets[1..].iter().for_each(|other| assembled.set(other.3, field, value));
-        }
-    });
 }
 
 pub fn bytes(role: &'static str, name: &str, kind: u32, flags: u64, bytes: Vec<u8>) -> Section {

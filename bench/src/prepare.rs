@@ -1,10 +1,11 @@
 //! Preparing a payload by itself: the largest, and others that leave out a part of what it has.
 
-use crate::largest::{payload, Shape, BY_NAME, LARGEST, RECORDS, SYMBOLS};
+use crate::largest::{payload, Shape, BY_NAME, LARGEST, SYMBOLS};
 use crate::library;
 use crate::show::{print_both, print_head, print_line};
 use crate::timing::{black_box, in_turn, Timed, Times};
 use differential::payloads::Input;
+use differential::second::limits::RECORDS;
 use differential::second::refusal::in_words;
 use differential::second::{self, Surroundings};
 
@@ -65,7 +66,7 @@ fn times(input: &Input, rounds: usize, cleared: bool) -> [Times; 2] {
 
 /// The payloads that are timed, the largest first.
 fn shapes() -> [(&'static str, Shape); 7] {
-    let few = Shape { runs: [0, 0], ..LARGEST };
+    let few = Shape { run: 0, ..LARGEST };
     let absolute = Shape { undefined: 0, ..LARGEST };
     // so few that the relocations ask for about as many names as there are undefined symbols in the largest
     let once = Shape { undefined: 9, ..LARGEST };
@@ -77,7 +78,7 @@ fn shapes() -> [(&'static str, Shape); 7] {
         ("prepare, all but 9 undefined symbols made absolute", once),
         ("prepare, a list of the names that are used only", short),
         ("prepare, such a list and absolute symbols", Shape { undefined: 0, ..short }),
-        ("prepare, such a list and the records' relocations only", Shape { runs: [0, 0], ..short }),
+        ("prepare, such a list and the records' relocations only", Shape { run: 0, ..short }),
     ]
 }
 

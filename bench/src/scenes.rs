@@ -5,6 +5,7 @@ use crate::pieces::{ARENA_BASE, TEXT_BASE};
 use crate::plan::{Plan, BUILD_ID, LEAST};
 use differential::payloads::Input;
 use differential::second::calls::state::APPLY;
+use differential::second::limits::RECORDS;
 use differential::sequences::{Does, World};
 use std::rc::Rc;
 
@@ -45,9 +46,9 @@ pub fn loaded(world: &Rc<World>, payloads: usize, records: usize) -> Case {
     Case { world: world.clone(), setup: [start].into_iter().chain(uploads).collect(), calls: Vec::new() }
 }
 
-/// Eight payloads with 16 edits each, the first seven applied.
+/// Eight payloads with the most edits each, the first seven applied.
 pub fn seven_applied(world: &Rc<World>) -> Case {
-    (0..7).fold(loaded(world, 8, 16), |case, slot| case.after(held(slot, APPLY)).after(works(16)))
+    (0..7).fold(loaded(world, 8, RECORDS), |case, slot| case.after(held(slot, APPLY)).after(works(RECORDS)))
 }
 
 impl Case {

@@ -1,24 +1,6 @@
 /* The calls of the C boundary, called from C: the layout of the records, and known answers with all that they write. */
 #include "lent.h"
 
-static uint64_t little(const uint8_t *at, int n)
-{
-    uint64_t x = 0;
-    while (n-- > 0)
-        x = x << 8 | at[n];
-    return x;
-}
-
-static void field(const char *what, unsigned at, int n, uint64_t want)
-{
-    expect(what, little(lent[RECORDS].at + at, n), want);
-}
-
-static void same(const char *what, int buffer, size_t at, const char *want, size_t n)
-{
-    expect(what, memcmp(lent[buffer].at + at, want, n) != 0, 0);
-}
-
 /* The records as docs/integrators.md has them, with a job of two steps of which one is done. */
 static void layout(void)
 {
@@ -37,23 +19,23 @@ static void layout(void)
     field("ticks left", 60, 4, 30);
     field("steps done", 64, 4, 1);
     field("CPUs held", 68, 8, 0x010101);
-    same("name", RECORDS, 164, "p1\0", 4);
-    field("length of the name", 164 + 128, 4, 3);
-    field("slot", 164 + 132, 4, 0);
-    field("status", 164 + 136, 4, URDDOLWY_CHECKED);
-    field("last result", 164 + 140, 4, 11);
-    field("length of the id", 164 + 144, 4, ID_SIZE);
-    field("length of the dependency", 164 + 148, 4, ID_SIZE);
-    same("dependency", RECORDS, 164 + 152, "hype\0", 5);
-    field("edits", 164 + 184, 4, 2);
-    field("offset of the first edit", 164 + 188, 4, 0);
-    field("its length", 164 + 192, 4, 5);
-    field("its kind", 164 + 196, 4, 1);
-    field("its displacement", 164 + 200, 8, arena_base - (text_base + 5));
-    field("offset of the second edit", 164 + 208, 4, 16);
-    field("its length", 164 + 212, 4, 9);
-    field("its kind", 164 + 216, 4, 0);
-    field("the second payload", 164 + 508, 8, 0);
+    same("name", RECORDS, PAYLOAD, "p1\0", 4);
+    field("length of the name", PAYLOAD + 128, 4, 3);
+    field("slot", PAYLOAD + 132, 4, 0);
+    field("status", PAYLOAD + 136, 4, URDDOLWY_CHECKED);
+    field("last result", PAYLOAD + 140, 4, 11);
+    field("length of the id", PAYLOAD + 144, 4, ID_SIZE);
+    field("length of the dependency", PAYLOAD + 148, 4, ID_SIZE);
+    same("dependency", RECORDS, PAYLOAD + DEPENDENCY, "hype\0", 5);
+    field("edits", PAYLOAD + EDIT_COUNT, 4, 2);
+    field("offset of the first edit", PAYLOAD + EDIT, 4, 0);
+    field("its length", PAYLOAD + EDIT + 4, 4, 5);
+    field("its kind", PAYLOAD + EDIT + 8, 4, 1);
+    field("its displacement", PAYLOAD + EDIT + 12, 8, arena_base - (text_base + 5));
+    field("offset of the second edit", PAYLOAD + EDIT + EDIT_SIZE, 4, 16);
+    field("its length", PAYLOAD + EDIT + EDIT_SIZE + 4, 4, 9);
+    field("its kind", PAYLOAD + EDIT + EDIT_SIZE + 8, 4, 0);
+    field("the second payload", PAYLOAD + PAYLOAD_SIZE, 8, 0);
 }
 
 /* Applies p1; then p2, on it, is loaded, and K10 of document 01 is asked. */
@@ -71,7 +53,7 @@ static void session(void)
     set_payload("two!", "one!");
     expect("upload p2", upload(), 0);
     same("the id store", IDS, 0, "one!\0", 5);
-    same("the id store", IDS, 32, "two!\0", 5);
+    same("the id store", IDS, URDDOLWY_BUILD_ID_MAX, "two!\0", 5);
     command = URDDOLWY_REVERT;
     expect("revert p2", action(), URDDOLWY_INVALID);
     expect("list", list(), 0);
@@ -104,16 +86,9 @@ static void time_out(void)
     refused("tick", "no job", tick, URDDOLWY_INVALID);
     cpu = 0;
     refused("report", "no job", report, URDDOLWY_INVALID);
-    lent[NAME].at = lent[RECORDS].at + 164;
+    lent[NAME].at = lent[RECORDS].at + PAYLOAD;
     expect("get by the name in the records", get(), 0);
     same("get p1", GET_OUT, 0, "\x02\0\0\0\xf0\xff\xff\xff\xa5", 9);
-}
-
-static int all_zero(int buffer, size_t at, size_t n)
-{
-    while (n > 0 && lent[buffer].at[at + n - 1] == 0)
-        n--;
-    return n == 0;
 }
 
 /* An unload frees the slot, and the next upload takes it: last in the list, and in slot 0. */
@@ -129,15 +104,15 @@ static void unloads(void)
     set_name("p1");
     expect("unload p1", action(), 0);
     expect("its slot is not zero", all_zero(ARENA, 0, 8192), 1);
-    expect("its id entry is not zero", all_zero(IDS, 0, 32), 1);
+    expect("its id entry is not zero", all_zero(IDS, 0, URDDOLWY_BUILD_ID_MAX), 1);
     expect("the other slot is zero", all_zero(ARENA, 8192, 8192), 0);
     refused("action", "not loaded", action, URDDOLWY_NOT_LOADED);
     refused("get", "not loaded", get, URDDOLWY_NOT_LOADED);
-    same("p2 moves up", RECORDS, 164, "p2\0\0", 4);
-    field("p2 stays in its slot", 164 + 132, 4, 1);
-    expect("the place behind it is not zero", all_zero(RECORDS, 164 + 508, 7 * 508), 1);
+    same("p2 moves up", RECORDS, PAYLOAD, "p2\0\0", 4);
+    field("p2 stays in its slot", PAYLOAD + 132, 4, 1);
+    expect("the place behind it is not zero", all_zero(RECORDS, PAYLOAD + PAYLOAD_SIZE, 7 * PAYLOAD_SIZE), 1);
     expect("upload p1 again", upload(), 0);
-    field("its slot", 164 + 508 + 132, 4, 0);
+    field("its slot", PAYLOAD + PAYLOAD_SIZE + 132, 4, 0);
     idx = 1, nr = 1;
     expect("list", list(), 0);
     same("the list from 1", NAMES, 0, "p1\0\0", 4);

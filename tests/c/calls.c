@@ -98,7 +98,7 @@ static void starts(void)
     arena_base = 0 - (uint64_t)4096, start_refused("an arena past 2^64");
     arena_base = text_base - 4096, start_refused("an arena over the text");
     text_base = 0 - (uint64_t)CODE_SIZE + 1, start_refused("a text past 2^64");
-    lent[HOST_ID].len = URDDOLWY_BUILD_ID_MAX + 1, start_refused("a build-id of 33 bytes");
+    lent[HOST_ID].len = URDDOLWY_BUILD_ID_MAX + 1, start_refused("a build-id of 65 bytes");
     arena_base = text_base - URDDOLWY_ARENA_SIZE;
     lent[CODE].at = large, lent[CODE].len = sizeof large, start_refused("a text over 16,777,216 bytes");
     arena_base = text_base - URDDOLWY_ARENA_SIZE;
@@ -119,13 +119,13 @@ static void not_a_state(const char *what)
 
 static void forged(void)
 {
-    enum { PAYLOAD = 164, EDIT = PAYLOAD + 188, SECOND = EDIT + 20 };
+    enum { FIRST_EDIT = PAYLOAD + EDIT, SECOND_EDIT = FIRST_EDIT + EDIT_SIZE };
     static const struct {
         const char *what;
         unsigned at, value;
     } wrong[] = {
         {"an arena at no multiple of 4,096", 16, 1},
-        {"a build-id of 33 bytes", 24, 33},
+        {"a build-id of 65 bytes", 24, 65},
         {"no CPU", 28, 0},
         {"nine payloads", 32, 9},
         {"more applied than loaded", 40, 2},
@@ -139,13 +139,15 @@ static void forged(void)
         {"slot 8", PAYLOAD + 132, 8},
         {"status 3", PAYLOAD + 136, 3},
         {"an id of no byte", PAYLOAD + 144, 0},
-        {"a dependency of 33 bytes", PAYLOAD + 148, 33},
-        {"no edit", PAYLOAD + 184, 0},
-        {"an edit past the text", EDIT, 60},
-        {"a jump of 6 bytes", EDIT + 4, 6},
-        {"an edit of kind 2", EDIT + 8, 2},
-        {"no-ops with a displacement", SECOND + 12, 1},
-        {"an edit of kind 2 behind the last payload", PAYLOAD + 7 * 508 + 188 + 15 * 20 + 8, 2},
+        {"an id of 65 bytes", PAYLOAD + 144, 65},
+        {"a dependency of 65 bytes", PAYLOAD + 148, 65},
+        {"no edit", PAYLOAD + EDIT_COUNT, 0},
+        {"33 edits", PAYLOAD + EDIT_COUNT, 33},
+        {"an edit past the text", FIRST_EDIT, 60},
+        {"a jump of 6 bytes", FIRST_EDIT + 4, 6},
+        {"an edit of kind 2", FIRST_EDIT + 8, 2},
+        {"no-ops with a displacement", SECOND_EDIT + 12, 1},
+        {"an edit of kind 2 behind the last payload", PAYLOAD + 7 * PAYLOAD_SIZE + EDIT + 31 * EDIT_SIZE + 8, 2},
     };
     fresh();
     memset(lent[RECORDS].at, 0, lent[RECORDS].len);

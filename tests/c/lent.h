@@ -33,6 +33,9 @@ static struct buffer lent[BUFFERS] = {
 
 static uint8_t memory[98304], before[sizeof memory];
 
+/* Where the payloads begin in the records, the size of one, and in it: dependency, number of edits, edits, and the size of an edit. */
+enum { PAYLOAD = 164, PAYLOAD_SIZE = 860, DEPENDENCY = 152, EDIT_COUNT = 216, EDIT = 220, EDIT_SIZE = 20 };
+
 /* The numbers of the calls. */
 static uint64_t text_base, arena_base;
 static uint32_t cpus, cpu, idx, nr, command, ticks;
@@ -131,8 +134,35 @@ static void refused(const char *call, const char *what, uint64_t (*make)(void), 
     expect(words, memcmp(before, memory, sizeof memory) != 0, 0);
 }
 
+static inline uint64_t little(const uint8_t *at, int n)
+{
+    uint64_t x = 0;
+    while (n-- > 0)
+        x = x << 8 | at[n];
+    return x;
+}
+
+/* A number of the records. */
+static inline void field(const char *what, unsigned at, int n, uint64_t want)
+{
+    expect(what, little(lent[RECORDS].at + at, n), want);
+}
+
+/* Bytes of a buffer. */
+static inline void same(const char *what, int buffer, size_t at, const void *want, size_t n)
+{
+    expect(what, memcmp(lent[buffer].at + at, want, n) != 0, 0);
+}
+
+static inline int all_zero(int buffer, size_t at, size_t n)
+{
+    while (n > 0 && lent[buffer].at[at + n - 1] == 0)
+        n--;
+    return n == 0;
+}
+
 /* p1 is loaded, and the job that applies it can be worked. The name is now p2, which is not loaded. */
-static void ready(void)
+static inline void ready(void)
 {
     fresh();
     expect("start", start(), 0);

@@ -96,7 +96,7 @@ static void accepted(const uint8_t *file, size_t n)
     check_symbols("accepted", &in, 0);
     check_file("accepted", &in, 0);
     prepare("accepted", &in, 0);
-    expect("urddolwy_prepare", "accepted", "the number of edits", little(wanted.summary + 4, 4), 16);
+    expect("urddolwy_prepare", "accepted", "the number of edits", little(wanted.summary + 4, 4), URDDOLWY_EDITS);
     expect("urddolwy_prepare", "accepted", "the second edit differs",
            memcmp(wanted.edits + URDDOLWY_EDIT_SIZE, printk, sizeof printk) != 0, 0);
 

@@ -9,7 +9,7 @@
 #include <string.h>
 #include <ucontext.h>
 
-enum { ARGUMENTS = 15, ON_STACK = 8 * (ARGUMENTS - 6), FOR_MEMORY = 256, FILE_MAX = 16384 };
+enum { ARGUMENTS = 15, ON_STACK = 8 * (ARGUMENTS - 6), FOR_MEMORY = 256, FILE_MAX = 32768 };
 
 /* What thunk.S takes and leaves. */
 struct registers {

@@ -124,7 +124,7 @@ static void job(enum urddolwy_command command)
     work("a CPU is missing", nowhere(URDDOLWY_BUSY));
     report("the only CPU", 0, 0);
     tick("complete", 0);
-    for (int i = 0; i < 16; i++)
+    for (int i = 0; i < URDDOLWY_EDITS; i++)
         work("a step", 0);
     work("no job", nowhere(URDDOLWY_INVALID));
 }

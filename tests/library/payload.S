@@ -1,5 +1,5 @@
 /* An accepted payload: `gcc -c` of this file makes it. It has placed sections with and without bytes, all four relocation types,
- * symbols of its own and of the list, and 16 records, jumps and fills, by name and by address. */
+ * symbols of its own and of the list, 32 records, jumps and fills, by name and by address, and an id of 64 bytes. */
         .macro record name=0, new=0, old=0, new_size, old_size
         .quad \name, \new, \old
         .long \new_size, \old_size
@@ -36,16 +36,16 @@ count:  .zero 256
         record name=printed, new_size=9, old_size=20
         record new=replacement, old=0xffff82d080ffff00, new_size=1, old_size=256
         .set at, 0
-        .rept 13
-        record old=(0xffff82d080000000 + 32 * at), new_size=(at + 19), old_size=31
+        .rept 29
+        record old=(0xffff82d080000000 + 32 * at), new_size=(at + 3), old_size=31
         .set at, at + 1
         .endr
 
         .section .note.gnu.build-id, "a", @note
         .balign 4
-        .long 4, 32, 3
+        .long 4, 64, 3
         .asciz "GNU"
-        .fill 32, 1, 0x5a
+        .fill 64, 1, 0x5a
 
         .section .livepatch.depends, "a", @note
         .balign 4

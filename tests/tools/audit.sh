@@ -34,16 +34,16 @@ place=(--text "$text" --slot "$slot")
 # ---- accepted: all that is said of document 01's first jump, K1, in numbers of both forms
 
 says 0 "first: accepted
-id:$(printf ' 5a%.0s' {1..31}) a5
+id:$(printf ' 5a%.0s' {1..63}) a5
 depends on: 77
-placed: 200 bytes, the sections by this tool's own sums, after document 01's rule
+placed: 232 bytes, the sections by this tool's own sums, after document 01's rule
   0xffff82d0801a0000     8 bytes: section 1 .text
   0xffff82d0801a0008    12 bytes: section 3 .rodata
   0xffff82d0801a0020    18 bytes: section 4 .data
   0xffff82d0801a0032     0 bytes: section 5 .bss
   0xffff82d0801a0040    64 bytes: section 6 .livepatch.funcs
   0xffff82d0801a0080    20 bytes: section 8 .livepatch.depends
-  0xffff82d0801a0098    48 bytes: section 9 .note.gnu.build-id
+  0xffff82d0801a0098    80 bytes: section 9 .note.gnu.build-id
 edits: 1
   edit 0: 5 bytes at 0xffff82d08013963c, a jump to 0xffff82d0801a0000
     record 0: name xen_extra_version, new_addr xen_hello_world, old_addr 0x0, new_size 8, old_size 13, version 1

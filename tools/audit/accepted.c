@@ -107,7 +107,7 @@ void print_accepted(const struct arguments *given, struct bytes file, const stru
     const uint8_t *summary = prepared->summary;
     printf("accepted\n");
     print_id("id", summary + 16, little(summary + 8, 4));
-    print_id("depends on", summary + 48, little(summary + 12, 4));
+    print_id("depends on", summary + 16 + URDDOLWY_BUILD_ID_MAX, little(summary + 12, 4));
     printf("placed: %u bytes, the sections by this tool's own sums, after document 01's rule\n", (unsigned)little(summary, 4));
     print_placed(file, given->slot);
     printf("edits: %u\n", edit_count(prepared));

@@ -4,20 +4,19 @@ use mathlib.Core.Path.{_≡_, refl}
 use mathlib.Core.Bool.{Bool, true, false, cond, _&&_, and-false}
 use mathlib.Core.List.{List, _∷_}
 use native.Mathlib.Omega.{arith}
-use borrow.Author.Tests.{le-leb, eqb-true}
+use borrow.Author.Tests.{le-leb}
 use lib.Dec.{leb, eqb}
-use lib.ListN.{length, drop}
+use lib.ListN.{length}
 use Rattle.words.specs.Address.{wrappingSum, wrappingDifference, signed, fits}
 use Rattle.words.specs.Number.{le, leAt, leBytes}
 use Rattle.words.specs.Order.{allZero}
 use Rattle.words.specs.Splice.{part}
 use Rattle.words.proofs.Addresses.{fits-range, reads-back}
-use Rattle.words.proofs.Tests.{both}
 use Rattle.records.specs.Limits.{idMax}
 use Rattle.records.specs.Refusal.{reasonFor}
 use Rattle.records.specs.Verdict.{must}
 use Rattle.records.specs.declared.refusal.Place.the-variants.{Record}
-use Rattle.elf.specs.Layout.{noteHeadSize, noteOf}
+use Rattle.elf.specs.Layout.{noteOf}
 use Rattle.elf.specs.declared.Relocation as elf
 use Rattle.machine.specs.Machine.{editBytes}
 use Rattle.machine.specs.X86.{x86-64, fitsFourBytes, typeOf, jumpLength, displacementOf, isFillSize}
@@ -116,10 +115,11 @@ module _ (l : Linking) (area : Area) (r : elf.Relocation) where
 
 -- a note that is right is as long as its id says
 note-length : (note : List ℕ) → noteOk note ≡ true → length note ≡ 16 + padded (idLength note)
-unfolding noteOk
-note-length note h =
-    let ended = both _ (allZero (drop (noteHeadSize + idLength note) note)) h in
-    eqb-true _ _ (both (leb noteHeadSize (length note) && noteHeadOk (noteOf note)) _ (ended .0) .1)
+note-length note h = note-ok-length note h .0
+
+-- the longest has the longest id
+note-most : (note : List ℕ) → noteOk note ≡ true → length note ≤ 80
+note-most note h = omega (arith, note-ok-length note h)
 
 -- one whose id is too long is wrong
 long-id : (note : List ℕ) (d : ℕ) → idLength note ≡ d → idMax < d → noteOk note ≡ false
@@ -150,7 +150,8 @@ known-answers =
       k7-20 = (refl, refl);
       k7-1 = (refl, refl);
       k7-length = note-length;
-      k7-33 = λ file ss i rest note size. rw (note, long-id _ _ size (omega arith));
+      k7-most = note-most;
+      k7-65 = λ file ss i rest note size. rw (note, long-id _ _ size (omega arith));
       k8-stands = λ p at old f plain none size room.
           rw (fill-made p at old f plain (rw none) (fill-right p f (plain .machine) _ size refl room), size);
       k8-refused = λ p at old r f machine none size. fill-refused p at old f r (rw none) (fill-wrong p f machine _ size refl);

@@ -57,7 +57,7 @@ use Rattle.acceptance.specs.Stages.{
 -- ---- "Reading a payload", up to the notes
 
 pub record KeepsReading (m : Machine) (file : List ℕ) : Type 0 where
-  -- "file 64 to 16,384 bytes"
+  -- "file 64 to 32,768 bytes" (W1)
   pub file-size : sizeOk (length file) ≡ true
   -- "magic, class 2, data 1, ident version 1, e_type 1, e_machine 62, e_version 1, e_shentsize 64, 1 to 64 sections"
   pub header : fieldsOk m (fileHeaderOf file) ≡ true
@@ -87,7 +87,7 @@ pub record KeepsReading (m : Machine) (file : List ℕ) : Type 0 where
   pub one-funcs : kindCount file Records ≡ 1
   pub one-depends : kindCount file Depends ≡ 1
   pub one-build-id : kindCount file BuildId ≡ 1
-  -- "64 bytes, 1 to 16 of them"
+  -- "64 bytes, 1 to 32 of them" (W1)
   pub funcs-size : recordsSizeOk (section file (recordsIndex file) .header) ≡ true
   -- "Type 4 sections: link to the symbol table, entry size 24, size a multiple of it. The target (sh_info) is either .., or .."
   pub relocation-headers :

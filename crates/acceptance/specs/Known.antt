@@ -124,13 +124,14 @@ pub record KnownAnswers : Type 0 where
   pub k6 :
       let two = placedSection 13 16 ∷ placedSection 5 8 ∷ [] in
       (offsetOf two 0 ≡ 0) × (offsetOf two 1 ≡ 16) × (endBefore two 2 ≡ 21)
-  -- "K7 a 20-byte id: 36-byte note section; 1 byte: 20; 33: refused"
+  -- "K7 a 20-byte id: 36-byte note section; 1 byte: 20; 65: refused" (W1)
   pub k7-20 : (noteOk (noteWith 20) ≡ true) × (length (noteWith 20) ≡ 36)
   pub k7-1 : (noteOk (noteWith 1) ≡ true) × (length (noteWith 1) ≡ 20)
   pub k7-length : (note : List ℕ) → noteOk note ≡ true → length note ≡ 16 + padded (idLength note)
-  pub k7-33 :
+  pub k7-most : (note : List ℕ) → noteOk note ≡ true → length note ≤ 80
+  pub k7-65 :
       (file : List ℕ) (ss : List SectionEntry) (i : ℕ) (rest : Verdict) → isNoteKind (sectionIn ss i .kind) ≡ true →
-      idLength (contentsOf file (sectionIn ss i .header)) ≡ 33 → one-note file ss i rest ≡ must false 22 (Section i)
+      idLength (contentsOf file (sectionIn ss i .header)) ≡ 65 → one-note file ss i rest ≡ must false 22 (Section i)
   -- "K8 NOP 31 stands, 32 refused"
   pub k8-stands :
       (p : Patching) (at old : ℕ) (f : FunctionRecord) → Plain p at old f → f .«new_addr» ≡ 0 → f .«new_size» ≡ 31 → 31 ≤ f .«old_size» →

@@ -1,4 +1,4 @@
--- What the C boundary writes of a prepared payload: edits in entries of 48 bytes, and a summary of 80.
+-- What the C boundary writes of a prepared payload: edits in entries of 48 bytes, and a summary with both ids.
 use Prim.Native.Nat.{ℕ, zero, suc, _+_, _*_, _-_, _≤_, _<_, _^_}
 use mathlib.Core.Bool.{cond}
 use mathlib.Core.List.{List, [], _++_}
@@ -32,14 +32,14 @@ unfoldable pub rows : Machine → ℕ → List Edit → ℕ → ℕ → List ℕ
 rows m text es n zero = []
 rows m text es n (suc k) = rows m text es n k ++ rowOf m text es n k
 
--- all 16 entries
+-- all entries: one for each record that a payload may have
 abbrev pub editTable : Machine → ℕ → List Edit → ℕ → List ℕ
 editTable m text es n = rows m text es n recordsMax
 
 abbrev pub editsSize : ℕ
 editsSize = entrySize * recordsMax
 
--- the summary: placed length, edit count, id length, dependency length, each in 4 little-endian bytes; then both ids in 32 bytes each
+-- the summary: placed length, edit count, id length, dependency length, each in 4 little-endian bytes; then both ids in `idMax` bytes each
 abbrev pub summarySize : ℕ
 summarySize = 16 + 2 * idMax
 

@@ -31,7 +31,7 @@ fn write_entry(buffer: &mut [u8], at: usize, host: Host, edit: Edit)
     processor.write_edit(buffer, at + 12, edit);
 }
 
-// All 16 entries, zeros behind the last of `count`.
+// All entries, zeros behind the last of `count`.
 pub fn write_edits(buffer: &mut [u8], host: Host, edits: [Edit; Payload::RECORDS_MAX], count: usize)
     requires { ⌜ (length (now buffer) ≡ editsSize) × (count ≤ recordsMax) × Fitting (hostMachine host) (host .text)
         edits count ⌝ }
@@ -49,7 +49,7 @@ pub fn write_edits(buffer: &mut [u8], host: Host, edits: [Edit; Payload::RECORDS
     }
 }
 
-// The 32 bytes of an id. An array of a record has a known length only behind a reference to an array.
+// The bytes of an id, zeros after its end. An array of a record has a known length only behind a reference to an array.
 fn write_id(buffer: &mut [u8], at: usize, bytes: &[u8; Payload::ID_MAX])
     requires { ⌜ at + idMax ≤ length (now buffer) ⌝ }
     ensures { λ r. ⌜ now (buffer .exit) ≡ splice (now (buffer .entry)) at (now (bytes .entry)) ⌝ }

@@ -36,7 +36,7 @@ madeOf (Fault reason) = noEdit
 abbrev pub one-record : Patching → ℕ → ℕ → Verdict → Verdict
 one-record p start r rest = editVerdict (editAt p start r) r then rest
 
--- the edits of the first n records, in a table of 16
+-- the edits of the first n records, in a table of `recordsMax`
 abbrev pub editsOf : Patching → ℕ → ℕ → List Edit
 editsOf p start n = filled (λ r. madeOf (editAt p start r)) noEdit recordsMax n
 

@@ -12,7 +12,7 @@ use Rattle.machine.specs.Machine.{Machine}
 use Rattle.elf.specs.Layout.{sectionHeaderSize, fileHeaderOf}
 use Rattle.elf.specs.declared.FileHeader.{FileHeader}
 
--- "file 64 to 16,384 bytes"
+-- "file 64 to 32,768 bytes" (W1)
 unfoldable pub sizeOk : ℕ → Bool
 sizeOk size = leb fileMin size && leb size fileMax
 

@@ -37,7 +37,7 @@ use Rattle.invariant.proofs.Upload.{slot-free}
 use Rattle.invariant.proofs.Work.{laid-next, laid-end}
 
 module _ (a : Start) (ps : List Loaded) (sound : All (SoundPayload a) ps) where
-  -- a slot that is taken is one of 8, and its payload has at most 16 edits
+  -- a slot that is taken is one of 8, and its payload has at most `recordsMax` edits
   slot-below : (slot : ℕ) → holds slot ps ≡ true → slot < slotCount
   slot-below slot h = rw (slot-in slot ps h) at (all-pick (isIn slot) (SoundPayload a) ps sound h .slotted)
 
@@ -113,7 +113,7 @@ module _ {l : Model} {j : Job} (s : Sound l) (e : l .job ≡ some j) where
       let p = parts l s in
       room-left (l .start) (l .payloads) (p .payloads) (l .stack) (p .stacked) (p .different) j (job-of l p j e) other
 
-  -- at most 8 payloads of at most 16 edits
+  -- at most 8 payloads of at most `recordsMax` edits
   pub steps-few : stepCount l j ≤ slotCount * recordsMax
   steps-few =
       let p = parts l s in

@@ -91,7 +91,7 @@ length-front n bytes new e h =
     let whole : length (splice bytes 0 new) ≡ length bytes = length-splice bytes 0 new (omega arith) in
     length-take-le n (splice bytes 0 new) (omega arith)
 
--- an id: 1 to 32 bytes
+-- the lengths of an id
 abbrev Sized : List ℕ → Type 0
 Sized id = (idMin ≤ length id) × (length id ≤ idMax)
 
@@ -128,7 +128,7 @@ module _ (a : Start) (slot : ℕ) (list file : List ℕ) (passes : payloadRules 
   abbrev all : List Edit
   all = editsOf (patchingOf t file) (recordsStart file) (recordCount file)
 
-  -- 1 to 16 records
+  -- the records are as many as the rules allow
   counted : (1 ≤ recordCount file) × (recordCount file ≤ recordsMax)
   counted =
       let r = read-passes file (machineAt t) reads in

@@ -38,5 +38,5 @@ pub record Jobs (l : Model) : Type 0 where
   pub ending :
       (j : Job) → l .job ≡ some j → isComplete j ≡ true → (n : ℕ) →
       (after l (replicate n Work) .job ≡ none) ↔ (stepCount l j ≤ j .steps + n)
-  -- at most 128
+  -- at most 256
   pub few : (j : Job) → l .job ≡ some j → stepCount l j ≤ slotCount * recordsMax

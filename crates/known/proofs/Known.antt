@@ -1,4 +1,4 @@
--- K10 holds of the reference model; K1 to K9 are laws of `acceptance`.
+-- K10 holds of the reference model; K1 to K9 are laws of `acceptance`; the sizes follow from the limits.
 use Prim.Native.Nat.{ℕ}
 use mathlib.Core.Path.{_≡_, refl, ap}
 use mathlib.Core.Bool.{true, false}
@@ -35,6 +35,7 @@ use Rattle.model.specs.Step.{
   step,
   replies,
 }
+use Rattle.known.specs.Sizes.{KnownSizes}
 use Rattle.known.specs.Table.{p2, Applied, listed, KnownTable}
 
 module _ {l : Model} {first second : Loaded} (k : Applied l first second) where
@@ -72,5 +73,10 @@ module _ {l : Model} {first second : Loaded} (k : Applied l first second) where
     unfolding replies step
     answers time = rw (acted time, listing) refl
 
+-- each size is its number by computation
+known-sizes : KnownSizes
+known-sizes =
+    record { undo = refl; undo-record = λ s r. refl; ids = refl; work-steps = refl; edits = refl; summary = refl; records = refl }
+
 pub known-table : KnownTable
-known-table = record { of-payloads = known-answers; k10 = λ l first second time b k room. answers k b room time }
+known-table = record { of-sizes = known-sizes; of-payloads = known-answers; k10 = λ l first second time b k room. answers k b room time }

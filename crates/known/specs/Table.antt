@@ -1,4 +1,4 @@
--- Document 01, "Numbers to hold against it": K1 to K10, one table under one claim.
+-- Document 01, "Numbers to hold against it": K1 to K10, one table under one claim; and the sizes that follow from the limits.
 use Prim.Native.Nat.{ℕ}
 use mathlib.Core.Path.{_≡_}
 use mathlib.Core.Bool.{true, false}
@@ -14,6 +14,7 @@ use Rattle.acceptance.specs.Known.{KnownAnswers}
 use Rattle.model.specs.Calls.{Buffers, Act, List-from, Says, Lists}
 use Rattle.model.specs.Model.{Loaded, Model}
 use Rattle.model.specs.Step.{hasRoom, replies}
+use Rattle.known.specs.Sizes.{KnownSizes}
 
 -- a name with its ending zero
 abbrev pub p1 : List ℕ
@@ -45,6 +46,8 @@ listed b =
     }
 
 pub record KnownTable : Type 0 where
+  -- the sizes by the limits
+  pub of-sizes : KnownSizes
   -- K1 to K9
   pub of-payloads : KnownAnswers
   -- "K10 p1 applied, p2 checked, revert p2 gives 22; list(0, 8): 2 written, 0 left, version 2, 02 00 00 00 00 00 00 00 01 00 00 00 ea ff ff ff"

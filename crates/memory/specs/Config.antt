@@ -35,7 +35,7 @@ arenaOk c =
 unfoldable pub areApart : Config → Bool
 areApart c = leb (c .text + c .«text_length») (c .arena) || leb (c .arena + arenaSize) (c .text)
 
--- "Hypervisor build-id, 1 to 32 bytes"; "a CPU count of 1 to 64"
+-- "Hypervisor build-id, 1 to 64 bytes" (W1); "a CPU count of 1 to 64"
 unfoldable pub countsOk : Config → Bool
 countsOk c =
     leb idMin (c .«id_length»)

@@ -14,7 +14,7 @@ slotAt slot = placedMax * slot
 abbrev pub arenaSize : ℕ
 arenaSize = slotAt slotCount
 
--- "Undo store, 3,968 bytes: record r of slot s has 31 bytes at 31(16s + r)"
+-- "Undo store, 7,936 bytes: record r of slot s has 31 bytes at 31(32s + r)" (W1)
 abbrev pub undoAt : ℕ → ℕ → ℕ
 undoAt slot r = editMax * (recordsMax * slot + r)
 
@@ -25,7 +25,7 @@ undoSize = undoAt slotCount 0
 abbrev pub slotUndoSize : ℕ
 slotUndoSize = editMax * recordsMax
 
--- "Id store, 256 bytes: slot s has 32 bytes"
+-- "Id store, 512 bytes: slot s has 64 bytes" (W1)
 abbrev pub idAt : ℕ → ℕ
 idAt slot = idMax * slot
 

@@ -42,6 +42,6 @@ storeOf n bytes (p ∷ ps) = splice (storeOf n bytes ps) (n * p .slot) (bytes p)
 abbrev pub arenaOf : Model → List ℕ
 arenaOf l = storeOf placedMax (λ p. p .image) (l .payloads)
 
--- "slot s has 32 bytes, id then zeros"
+-- "slot s has 64 bytes, id then zeros" (W1)
 abbrev pub idsOf : Model → List ℕ
 idsOf l = storeOf idMax (λ p. padded idMax (p .id)) (l .payloads)

@@ -54,7 +54,7 @@ module _ (note : List ℕ) where
 
 -- ---- a note's length
 
--- "d (1 to 32)"
+-- the length of its id is in its limits
 head-length : (head : Note) → noteHeadOk head ≡ true → (idMin ≤ head .«n_descsz») × (head .«n_descsz» ≤ idMax)
 unfolding noteHeadOk
 head-length head h =

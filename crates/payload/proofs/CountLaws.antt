@@ -112,7 +112,7 @@ symbols-linked ss n h ok =
     let inside = both (eqb (h .«sh_entsize») symbolSize && eqb (h .«sh_size» % symbolSize) 0) _ (typed .0) in
     (ltb-true _ _ (inside .1), typed .1)
 
--- the function records are 1 to 16
+-- the number of function records is in its limits
 pub records-sized :
     (h : SectionHeader) → recordsSizeOk h ≡ true → (recordSize ≤ h .«sh_size») × (h .«sh_size» ≤ recordSize * recordsMax)
 unfolding recordsSizeOk

@@ -38,7 +38,7 @@ symbolTableOk ss n h =
     && ltb (h .«sh_link») n
     && hasType 3 (sectionIn ss (h .«sh_link») .header)
 
--- "64 bytes, 1 to 16 of them"
+-- "64 bytes, 1 to 32 of them" (W1)
 unfoldable pub recordsSizeOk : SectionHeader → Bool
 recordsSizeOk h =
     leb recordSize (h .«sh_size»)

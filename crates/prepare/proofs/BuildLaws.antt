@@ -196,7 +196,7 @@ module _ {t : Setting} {file : List ℕ} {g : Reading} {p : PlacedSlot} (d : InS
     count-is : count ≡ recordCount file
     count-is = rw (d .ready .read)
 
-    -- all records lie in the placed bytes, and are at most 16
+    -- all records lie in the placed bytes, and are at most `recordsMax`
     pub to-patch : {k : ℕ} → k ≡ count → (begin + recordSize * k ≤ length (take (p .answer .placed) image)) × (k ≤ recordsMax)
     to-patch counted =
         let found = index-found (sections file) (sectionCount file) Records (passing .counts .records) in

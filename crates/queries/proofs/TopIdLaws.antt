@@ -1,4 +1,4 @@
--- The id that is on top: it lies in the id store, and has 1 to 32 bytes.
+-- The id that is on top: it lies in the id store, and its length is in its limits.
 use Prim.Native.Nat.{ℕ, _+_, _≤_, _<_}
 use mathlib.Core.Path.{_≡_, refl}
 use mathlib.Core.Bool.{Bool, true, false, cond}
@@ -45,7 +45,7 @@ module _ (s : State) where
       let parts = three (inRange s) (eqb build-id (s .config .«id_length»)) (eqb ids idsSize) h in
       record { ranges = parts .0; id = eqb-true _ _ (parts .1); store = eqb-true _ _ (parts .2) }
 
-  -- "an id has 1 to 32 bytes"
+  -- the length of an id
   pub length-top-id :
       (build-id ids : List ℕ) → Whole s → Sized (length build-id) (length ids) →
       (idMin ≤ length (topId s build-id ids)) × (length (topId s build-id ids) ≤ idMax)

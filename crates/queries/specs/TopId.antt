@@ -47,7 +47,7 @@ idRules s build-id ids = must (idSizesOk s (length build-id) (length ids)) 22 No
 unfoldable pub topIdOf : State → List ℕ → List ℕ → List ℕ
 topIdOf s build-id ids = decide (λ r. []) (topId s build-id ids) (idRules s build-id ids)
 
--- what a part that is handed out says: the empty one is 22, as an id has 1 to 32 bytes
+-- what a part that is handed out says: the empty one is 22, as an id has at least one byte
 abbrev pub idVerdict : List ℕ → Verdict
 idVerdict id = must (leb 1 (length id)) 22 Nowhere
 

@@ -33,7 +33,7 @@ editInRange c e = isEditLength (machineOf (c .processor)) (e .kind) (e .length) 
 unfoldable pub nameInRange : Payload → Bool
 nameInRange p = leb (p .«name_length») nameMax && isName (nameOf p)
 
--- "id 1 to 32 bytes"
+-- "id 1 to 64 bytes" (W1)
 unfoldable pub idsInRange : Payload → Bool
 idsInRange p =
     leb idMin (p .«id_length»)
@@ -41,7 +41,7 @@ idsInRange p =
     && leb idMin (p .dependency .length)
     && leb (p .dependency .length) idMax
 
--- "16 function records"
+-- "32 function records" (W1)
 unfoldable pub editsInRange : Config → Payload → Bool
 editsInRange c p =
     leb 1 (p .«edit_count»)

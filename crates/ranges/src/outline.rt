@@ -1,4 +1,4 @@
-// The outline of a state: all that its stack and its job are checked by. A state goes by value and has about 5 KiB; its outline has 128 bytes.
+// The outline of a state: all that its stack and its job are checked by. A state goes by value and has some 8 KiB; its outline has 128 bytes.
 ghost use mathlib.Core.Path.{_≡_};
 ghost use Prim.Native.Nat.{ℕ, _≤_, _<_};
 ghost use Rattle.memory.specs.Memory.{slotCount};

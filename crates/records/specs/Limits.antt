@@ -1,23 +1,24 @@
 -- Document 01: "The limits of a payload stand once, with the payload's own kind". Every definition takes them from here.
+-- Three of them are those of document 02, W1: the file, the function records and the ids.
 use Prim.Native.Nat.{ℕ}
 use Rattle.records.specs.declared.payload.Limits.{Limits}
 
--- "file 64 to 16,384 bytes"
+-- "file 64 to 32,768 bytes" (W1)
 abbrev pub fileMin : ℕ
 fileMin = 64
 
 abbrev pub fileMax : ℕ
-fileMax = 16384
+fileMax = 32768
 
 -- "64 sections"
 abbrev pub sectionsMax : ℕ
 sectionsMax = 64
 
--- "16 function records"
+-- "32 function records" (W1)
 abbrev pub recordsMax : ℕ
-recordsMax = 16
+recordsMax = 32
 
--- "64 bytes, 1 to 16 of them": the bytes of a function record
+-- "64 bytes, 1 to 32 of them" (W1): the bytes of a function record
 abbrev pub recordSize : ℕ
 recordSize = 64
 
@@ -25,12 +26,12 @@ recordSize = 64
 abbrev pub placedMax : ℕ
 placedMax = 8192
 
--- "id 1 to 32 bytes"
+-- "id 1 to 64 bytes" (W1)
 abbrev pub idMin : ℕ
 idMin = 1
 
 abbrev pub idMax : ℕ
-idMax = 32
+idMax = 64
 
 -- "Names have 2 to 128 bytes"
 abbrev pub nameMin : ℕ

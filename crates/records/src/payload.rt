@@ -88,11 +88,11 @@ fn fill_name(kept: &mut [u8; Payload::NAME_MAX], name: &[u8])
 impl Payload {
     pub const FILE_MIN: usize = 64;
 
-    pub const FILE_MAX: usize = 16384;
+    pub const FILE_MAX: usize = 32768;
 
     pub const SECTIONS_MAX: usize = 64;
 
-    pub const RECORDS_MAX: usize = 16;
+    pub const RECORDS_MAX: usize = 32;
 
     pub const RECORD_SIZE: usize = 64;
 
@@ -100,7 +100,7 @@ impl Payload {
 
     pub const ID_MIN: usize = 1;
 
-    pub const ID_MAX: usize = 32;
+    pub const ID_MAX: usize = 64;
 
     pub const NAME_MIN: usize = 2;
 

@@ -39,7 +39,7 @@ configFor l =
       cpus = l .cpus;
     }
 
--- "exactly 65,536 bytes", "3,968 bytes", "256 bytes"
+-- "exactly 65,536 bytes", "7,936 bytes", "512 bytes" (W1)
 unfoldable pub storesOk : ℕ → ℕ → ℕ → Bool
 storesOk arena undo ids = eqb arena arenaSize && eqb undo undoSize && eqb ids idsSize
 

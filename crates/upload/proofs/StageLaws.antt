@@ -112,7 +112,7 @@ module _ (s : State) (arena ids : ℕ) (name list : List ℕ) where
 
 -- ---- an accepted payload
 
--- it has 16 function records at most
+-- it has `recordsMax` function records at most
 few-records : (t : Setting) (file : List ℕ) → payloadRules t file ≡ Pass → recordCount file ≤ recordsMax
 few-records t file pass =
     omega (arith, read-passes file (machineAt t) (then-pass (readRules (machineAt t) file) _ pass .0) .records-most)

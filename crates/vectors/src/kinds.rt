@@ -16,5 +16,5 @@ pub(crate) fn all() {
         Reason::OutOfRange,
         Place::Entry(5, 7),
     );
-    refusal(b"22 record 15", Reason::Invalid, Place::Record(15));
+    refusal(b"22 record 31", Reason::Invalid, Place::Record(31));
 }

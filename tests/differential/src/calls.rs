@@ -20,8 +20,8 @@ const ENOUGH: u64 = 10_000;
 /// Runs all scripts, and so many random sequences in all, or a few more.
 pub fn run(seed: u64, sequences: u64, report: &mut Report) {
     let size = records_size();
-    println!("a records buffer of {size} bytes: {}", if size == 4_228 { "ok" } else { "FAILED" });
-    report.count(1, u64::from(size != 4_228));
+    println!("a records buffer of {size} bytes: {}", if size == 7_044 { "ok" } else { "FAILED" });
+    report.count(1, u64::from(size != 7_044));
     let mut scripted = Seen::default();
     for script in scripts::all() {
         let session = script.run(&[library(), second()]);

@@ -4,6 +4,7 @@ use crate::payloads::assemble::{get, header_field, put, section_field, Assembled
 use crate::payloads::random::Made;
 use crate::payloads::Input;
 use crate::rng::Rng;
+use crate::second::limits::{EDIT_TABLE, FILE, FILE_LEAST, NOTE, SLOT, SUMMARY};
 
 /// What the damage aims at.
 #[derive(Clone, Copy, PartialEq, Eq, Debug)]
@@ -23,10 +24,11 @@ pub enum Focus {
 }
 
 /// Numbers at which rules change their mind.
-const SPECIAL: [u64; 44] = [
-    0, 1, 2, 3, 4, 5, 6, 7, 8, 9, 10, 11, 16, 23, 24, 25, 31, 32, 33, 48, 62, 63, 64, 65, 127, 128, 4095, 4096, 4097,
-    8191, 8192, 8193, 0xff00, 0xfff1, 0xfff2, 0xffff, 0x7fff_ffff, 0x8000_0000, 0xffff_ffff, 0x1_0000_0000,
-    0x8000_0000_0000_0000, 0xffff_ffff_ffff_fff8, 0xffff_ffff_ffff_fffc, 0xffff_ffff_ffff_ffff,
+const SPECIAL: [u64; 49] = [
+    0, 1, 2, 3, 4, 5, 6, 7, 8, 9, 10, 11, 16, 23, 24, 25, 31, 32, 33, 48, 62, 63, 64, 65, 80, 127, 128, 2048, 2112,
+    4095, 4096, 4097, 8191, 8192, 8193, 32_768, 32_769, 0xff00, 0xfff1, 0xfff2, 0xffff, 0x7fff_ffff, 0x8000_0000,
+    0xffff_ffff, 0x1_0000_0000, 0x8000_0000_0000_0000, 0xffff_ffff_ffff_fff8, 0xffff_ffff_ffff_fffc,
+    0xffff_ffff_ffff_ffff,
 ];
 
 /// Another number for a field.
@@ -72,7 +74,7 @@ fn once(made: &Made, focus: Focus, file: &mut [u8], rng: &mut Rng) {
             change(made, file, made.assembled.table + 64 * row + field.at, field.width, rng);
         }
         Focus::Names => names(made, file, rng),
-        Focus::Notes => fields(made, &["depends", "build_id"], 48, &NOTE, file, rng),
+        Focus::Notes => fields(made, &["depends", "build_id"], NOTE, &NOTE_FIELDS, file, rng),
         Focus::Symbols => fields(made, &["symtab"], 24, &SYMBOL, file, rng),
         Focus::Relocations => {
             let roles = ["rela_funcs", "rela_plain", "rela_plain", "rela_ignored"];
@@ -87,7 +89,8 @@ fn once(made: &Made, focus: Focus, file: &mut [u8], rng: &mut Rng) {
 }
 
 /// Offsets and widths of fields in contents.
-const NOTE: [(usize, usize); 9] = [(0, 4), (4, 4), (8, 4), (12, 4), (16, 1), (20, 1), (24, 1), (33, 1), (35, 1)];
+const NOTE_FIELDS: [(usize, usize); 10] =
+    [(0, 4), (4, 4), (8, 4), (12, 4), (16, 1), (20, 1), (33, 1), (35, 1), (NOTE - 3, 1), (NOTE - 1, 1)];
 const SYMBOL: [(usize, usize); 7] = [(0, 4), (4, 1), (5, 1), (6, 2), (6, 2), (8, 8), (16, 8)];
 const RELOCATION: [(usize, usize); 4] = [(0, 8), (8, 4), (12, 4), (16, 8)];
 const RECORD: [(usize, usize); 8] = [(0, 8), (8, 8), (16, 8), (24, 4), (28, 4), (32, 1), (33, 1), (63, 1)];
@@ -150,11 +153,11 @@ fn length(file: &mut Vec<u8>, rng: &mut Rng) {
         1 => file.truncate(file.len() - rng.index(64.min(file.len()))),
         2 => file.truncate(rng.index(130)),
         3 => {
-            let more = rng.index(17_000);
+            let more = rng.index(FILE + 1_000);
             file.extend(rng.bytes(more));
         }
         _ => {
-            let len = rng.pick(&[63, 64, 16_383, 16_384, 16_385]);
+            let len = rng.pick(&[FILE_LEAST - 1, FILE_LEAST, FILE - 1, FILE, FILE + 1]);
             file.resize(len, rng.byte());
         }
     }
@@ -220,7 +223,8 @@ fn surroundings(input: &mut Input, rng: &mut Rng) {
         7..=10 => input.slot_base = other(input.slot_base, file, 64, rng),
         _ => {
             let buffer = rng.index(3);
-            input.buffers[buffer] = rng.pick(&[0, 1, 79, 80, 81, 767, 768, 769, 8191, 8192, 8193]);
+            let size = rng.pick(&[SUMMARY, EDIT_TABLE, SLOT]);
+            input.buffers[buffer] = rng.pick(&[0, 1, size / 2, size - 1, size, size + 1]);
         }
     }
 }

@@ -5,7 +5,7 @@ use crate::reached::Reached;
 use crate::report::Report;
 use differential::damage::{damage, free_bytes, symbol_list, Focus};
 use differential::mutations::{table, Table};
-use differential::payloads::random::{edge_payload, lists, payload, Made};
+use differential::payloads::random::{edge_payload, lists, payload, payload_beyond, Made};
 use differential::payloads::Input;
 use differential::rng::Rng;
 use differential::stated::Stated;
@@ -21,18 +21,21 @@ enum Kind {
     FreeBytes,
     /// Payloads whose slot lies where the reach of jumps ends.
     Edge,
+    /// Payloads that pass one limit.
+    Beyond,
     /// The changes of two named rows at once: the order of checks.
     TwoRows,
     Damaged(Focus),
 }
 
 /// Kinds, their names, and their parts of all cases.
-const KINDS: [(Kind, &str, u64); 18] = [
+const KINDS: [(Kind, &str, u64); 19] = [
     (Kind::ValidLists, "valid symbol lists", 2),
     (Kind::DamagedLists, "damaged symbol lists", 7),
     (Kind::ValidPayloads, "valid payloads", 10),
     (Kind::FreeBytes, "bytes that no rule consults", 2),
     (Kind::Edge, "jumps at the end of their reach", 2),
+    (Kind::Beyond, "payloads past one limit", 2),
     (Kind::TwoRows, "two rows at once", 12),
     (Kind::Damaged(Focus::Header), "damaged headers", 4),
     (Kind::Damaged(Focus::SectionTable), "damaged section tables", 18),
@@ -136,6 +139,7 @@ impl Source {
                 let stated = Stated { symbols: Some(0), file: Some(0), ..Stated::default() };
                 (edge_payload(&mut self.rng), stated)
             }
+            Kind::Beyond => payload_beyond(&mut self.rng),
             Kind::TwoRows => (self.two_rows(), Stated::default()),
             Kind::Damaged(focus) => (self.damaged(focus), Stated::default()),
         }

@@ -3,6 +3,7 @@
 use crate::payloads::assemble::{get, list_bytes};
 use crate::payloads::template::{SLOT_BASE, TEXT_BASE, TEXT_LEN};
 use crate::payloads::Input;
+use crate::second::limits::{BUFFERS, EDIT_ENTRY};
 use crate::stated::Stated;
 use std::path::Path;
 use std::process::Command;
@@ -42,6 +43,18 @@ const HELLO: Expect = Expect::Edits(&[(0xffff_82d0_8013_963c, 5)]);
 const SEVERAL: Expect =
     Expect::Edits(&[(0xffff_82d0_8010_4a6a, 5), (0xffff_82d0_8011_0000, 9), (0xffff_82d0_8012_0000, 5)]);
 
+const ID_64: &str = concat!(
+    "--build-id=0x",
+    "000102030405060708090a0b0c0d0e0f101112131415161718191a1b1c1d1e1f",
+    "202122232425262728292a2b2c2d2e2f303132333435363738393a3b3c3d3e3f",
+);
+const ID_68: &str = concat!(
+    "--build-id=0x",
+    "000102030405060708090a0b0c0d0e0f101112131415161718191a1b1c1d1e1f",
+    "202122232425262728292a2b2c2d2e2f303132333435363738393a3b3c3d3e3f",
+    "40414243",
+);
+
 const PROPERTY: [&str; 5] = [
     "objcopy", "--add-section", ".note.gnu.property=depends.S", "--set-section-flags",
     ".note.gnu.property=alloc,readonly",
@@ -79,6 +92,7 @@ fn accepted() -> Vec<Recipe> {
         later("the comment removed", &["objcopy", "--remove-section=.comment"], SEVERAL),
         later("text aligned to 4,096", &["objcopy", "--set-section-alignment", ".text=4096"], SEVERAL),
         linked("a build-id of 4 bytes", &["--build-id=0x01020304"], HELLO),
+        linked("a build-id of 64 bytes", &[ID_64], HELLO),
     ]
 }
 
@@ -102,6 +116,7 @@ fn refused() -> Vec<Recipe> {
         hello("kernel model", &["-fno-pic", "-mcmodel=kernel"], Expect::RefusedEntry(95, ".rela.text")),
         linked("no build-id", &[], Expect::Refused(22, None)),
         linked("a build-id of 3 bytes, which ld does not pad", &["--build-id=0x010203"], at(22, ".note.gnu.build-id")),
+        linked("a build-id of 68 bytes", &[ID_68], at(22, ".note.gnu.build-id")),
         linked("two dependencies", &["--build-id=sha1", "depends.o"], at(22, ".livepatch.depends")),
     ]
 }
@@ -152,7 +167,7 @@ fn judged(file: Vec<u8>, expect: &Expect) -> Result<(Input, Stated), String> {
         Expect::Edits(edits) => {
             stated.edit_count(edits.len());
             for (index, (address, length)) in edits.iter().enumerate() {
-                stated.bytes.push((1, 48 * index, [&address.to_le_bytes()[..], &[*length, 0, 0, 0]].concat()));
+                stated.bytes.push((1, EDIT_ENTRY * index, [&address.to_le_bytes()[..], &[*length, 0, 0, 0]].concat()));
             }
         }
         Expect::Refused(number, None) => refuse(&mut stated, number),
@@ -174,7 +189,7 @@ fn judged(file: Vec<u8>, expect: &Expect) -> Result<(Input, Stated), String> {
     let mut list: Vec<(Vec<u8>, u64)> = list.iter().map(|(name, at)| (name.as_bytes().to_vec(), *at)).collect();
     list.push((b"xen_extra_version".to_vec(), 0xffff_82d0_8013_963c));
     let (text_base, text_len, slot_base) = (TEXT_BASE, TEXT_LEN, SLOT_BASE);
-    Ok((Input { file, list: list_bytes(&list), text_base, text_len, slot_base, buffers: [8192, 768, 80] }, stated))
+    Ok((Input { file, list: list_bytes(&list), text_base, text_len, slot_base, buffers: BUFFERS }, stated))
 }
 
 fn refuse(stated: &mut Stated, code: u64) {

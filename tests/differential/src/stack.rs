@@ -5,6 +5,7 @@ use crate::number;
 use crate::report::Report;
 use differential::payloads::assemble::input;
 use differential::payloads::template::template;
+use differential::second::limits::BUFFERS;
 
 const HEADER: &str = include_str!("../../../include/urddolwy.h");
 
@@ -20,7 +21,7 @@ const THREAD: usize = 10 << 10;
 /// Prepares an accepted payload on a stack of that size. Where it is not enough, the page that guards it ends the program.
 pub fn run(report: &mut Report) {
     let input = input(&template(0));
-    let mut buffers = [vec![0; 8192], vec![0; 768], vec![0; 80]];
+    let mut buffers = BUFFERS.map(|len| vec![0; len]);
     let call = move || {
         let [image, edits, summary] = &mut buffers;
         abi::prepare(&input.file, &input.list, &input, [image, edits, summary])

@@ -1,5 +1,7 @@
 //! What is stated of an input beforehand: answers, and bytes of the buffers after acceptance.
 
+use crate::second::limits::{EDIT_ENTRY, EDIT_TABLE, ID, SUMMARY_DEPENDENCY, SUMMARY_ID};
+
 /// Answers by call where they are stated, and bytes that the buffers have where the payload is accepted (buffer,
 /// offset, bytes): buffer 0 is the image, 1 the edits, 2 the summary.
 #[derive(Clone, Debug, Default)]
@@ -24,27 +26,27 @@ impl Stated {
     /// The count of edits in the summary, and zeros in the entries after them.
     pub fn edit_count(&mut self, count: usize) {
         self.bytes.push((2, 4, (count as u32).to_le_bytes().to_vec()));
-        self.bytes.push((1, 48 * count, vec![0; 768 - 48 * count]));
+        self.bytes.push((1, EDIT_ENTRY * count, vec![0; EDIT_TABLE - EDIT_ENTRY * count]));
     }
 
     /// One whole entry of the edits.
     pub fn edit(&mut self, index: usize, address: u64, bytes: &[u8]) {
         let mut entry = [&address.to_le_bytes()[..], &(bytes.len() as u32).to_le_bytes(), bytes].concat();
-        entry.resize(48, 0);
-        self.bytes.push((1, 48 * index, entry));
+        entry.resize(EDIT_ENTRY, 0);
+        self.bytes.push((1, EDIT_ENTRY * index, entry));
     }
 
     pub fn build_id(&mut self, id: &[u8]) {
-        self.id(8, 16, id);
+        self.id(8, SUMMARY_ID, id);
     }
 
     pub fn dependency(&mut self, id: &[u8]) {
-        self.id(12, 48, id);
+        self.id(12, SUMMARY_DEPENDENCY, id);
     }
 
     fn id(&mut self, length_at: usize, at: usize, id: &[u8]) {
         let mut kept = id.to_vec();
-        kept.resize(32, 0);
+        kept.resize(ID, 0);
         self.bytes.push((2, length_at, (id.len() as u32).to_le_bytes().to_vec()));
         self.bytes.push((2, at, kept));
     }

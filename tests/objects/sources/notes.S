@@ -1,9 +1,9 @@
-/* Both notes by assembler, placed, of type SHT_PROGBITS and aligned to 8; the ids have 32 bytes and 1 byte. */
+/* Both notes by assembler, placed, of type SHT_PROGBITS and aligned to 8; the ids have 64 bytes and 1 byte. */
         .section .note.gnu.build-id, "a", @progbits
         .balign 8
-        .long 4, 32, 3
+        .long 4, 64, 3
         .asciz "GNU"
-        .fill 31, 1, 0x5a
+        .fill 63, 1, 0x5a
         .byte 0xa5
 
         .section .livepatch.depends, "a", @progbits

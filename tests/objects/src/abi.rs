@@ -2,8 +2,10 @@
 
 pub const IMAGE: usize = 8192;
 pub const EDIT: usize = 48;
-pub const EDITS: usize = 16;
-pub const SUMMARY: usize = 80;
+pub const EDITS: usize = 32;
+/// The most bytes of an id.
+pub const ID: usize = 64;
+pub const SUMMARY: usize = 16 + 2 * ID;
 
 #[path = "../../boundary.rs"]
 mod boundary;

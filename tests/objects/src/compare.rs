@@ -1,6 +1,6 @@
 //! One prepared payload held against what GNU ld made of it.
 
-use crate::abi::{in_words, prepare, Place, Prepared, EDIT, EDITS};
+use crate::abi::{in_words, prepare, Place, Prepared, EDIT, EDITS, ID};
 use crate::elf::{get, sections};
 use crate::oracle::{by_name, link, placed, Linked, Placed};
 use crate::recipes::Edit;
@@ -87,7 +87,7 @@ fn compare_summary(prepared: &Prepared, length: u64, expected: &Expected, report
     let mut theirs: Vec<u8> = numbers.iter().flat_map(|number| (*number as u32).to_le_bytes()).collect();
     for id in [expected.id, expected.depends] {
         theirs.extend(id);
-        theirs.resize(theirs.len() + 32 - id.len(), 0);
+        theirs.resize(theirs.len() + ID - id.len(), 0);
     }
     report.compare("the summary", &differing("summary", 0, &prepared.summary, "stated", &theirs));
 }

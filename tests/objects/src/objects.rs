@@ -12,11 +12,12 @@ use std::collections::BTreeMap;
 use std::path::Path;
 
 /// The sources, compiled into this program.
-const SOURCES: [(&str, &str); 14] = [
+const SOURCES: [(&str, &str); 15] = [
     ("livepatch.h", include_str!("../sources/livepatch.h")),
     ("hello.c", include_str!("../sources/hello.c")),
     ("calls.c", include_str!("../sources/calls.c")),
     ("data.c", include_str!("../sources/data.c")),
+    ("many.c", include_str!("../sources/many.c")),
     ("strings.c", include_str!("../sources/strings.c")),
     ("more_strings.c", include_str!("../sources/more_strings.c")),
     ("fill.S", include_str!("../sources/fill.S")),

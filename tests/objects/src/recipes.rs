@@ -1,6 +1,7 @@
 //! The objects: sources, commands, and the edits that their records name.
 
 /// What a record changes.
+#[derive(Clone, Copy)]
 pub enum Edit {
     /// A jump to a function of the payload.
     Jump(&'static str),
@@ -48,6 +49,23 @@ const FILLS: &[(u64, Edit)] =
     &[(TEXT, Fill(1)), (PRINTK, Fill(9)), (DOMCTL, Jump("replacement")), (0xffff_82d0_802f_ffe1, Fill(31))];
 const FIELDS: &[(u64, Edit)] = &[(VERSION, Jump("two")), (0xffff_82d0_802f_fffb, Jump("last"))];
 
+/// The functions of many.c.
+const MANY_NAMES: [&str; 32] = [
+    "many_00", "many_01", "many_02", "many_03", "many_04", "many_05", "many_06", "many_07", "many_08", "many_09",
+    "many_10", "many_11", "many_12", "many_13", "many_14", "many_15", "many_16", "many_17", "many_18", "many_19",
+    "many_20", "many_21", "many_22", "many_23", "many_24", "many_25", "many_26", "many_27", "many_28", "many_29",
+    "many_30", "many_31",
+];
+const MANY: &[(u64, Edit)] = &{
+    let mut edits = [(TEXT, Fill(0)); 32];
+    let mut at = 0;
+    while at < edits.len() {
+        edits[at] = (TEXT + 0x1000 * at as u64, Jump(MANY_NAMES[at]));
+        at += 1;
+    }
+    edits
+};
+
 const BY_ADDRESS: Words = &["-DOLD_ADDRESS=0xffff82d08013963c"];
 const NO_COPY: Words = &["-fno-merge-constants"];
 const LARGE: Words = &["-fno-pic", "-mcmodel=large"];
@@ -89,8 +107,8 @@ fn strings(name: &'static str, compile: Words) -> Recipe {
 
 fn own_notes(name: &'static str, sources: Words, edits: &'static [(u64, Edit)]) -> Recipe {
     const ID: &[u8] = &{
-        let mut id = [0x5a; 32];
-        id[31] = 0xa5;
+        let mut id = [0x5a; 64];
+        id[63] = 0xa5;
         id
     };
     Recipe { name, sources, link: &[], id: ID, depends: &[0x77], edits, ..PLAIN }
@@ -116,6 +134,11 @@ pub fn all() -> Vec<Recipe> {
         Recipe { then: STRIP, ..strings("strings, stripped", &[]) },
         own_notes("placed notes of type 1", &["notes.S", "hello.c"], HELLO),
         own_notes("placed notes of type 1, at the end", &["calls.c", "notes.S"], CALLS),
+        own_notes("thirty-two functions", &["many.c", "notes.S"], MANY),
+        Recipe {
+            compile: &["-g"],
+            ..own_notes("thirty-two functions with debugging information", &["many.c", "notes.S"], MANY)
+        },
         Recipe { then: UNPLACED, ..calls("a dependency that is not placed", &[]) },
         Recipe { name: "fields", sources: &["fields.S", "fixed.S", "depends.S"], edits: FIELDS, ..PLAIN },
         Recipe { link: JOINED, ..data("data, joined by a linker script", APART) },

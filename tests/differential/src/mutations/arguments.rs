@@ -19,10 +19,10 @@ pub fn rows(table: &mut Table) {
 }
 
 fn buffers(t: &mut Table) {
-    for (buffer, lens) in
-        [(0usize, [0, 1, 4096, 8191, 8193, 65536]), (1, [0, 48, 720, 767, 769, 816]), (2, [0, 16, 64, 79, 81, 160])]
-    {
-        for len in lens {
+    let wrong: [&[usize]; 3] =
+        [&[0, 1, 4096, 8191, 8193, 65536], &[0, 48, 768, 1488, 1535, 1537, 1584], &[0, 16, 64, 80, 143, 145, 288]];
+    for (buffer, lens) in wrong.into_iter().enumerate() {
+        for len in lens.iter().copied() {
             let what = ["image", "edits", "summary"][buffer];
             t.prepare("ARG-01", format!("{what} buffer of {len} bytes"), nowhere(22), move |d| d.buffers[buffer] = len);
         }

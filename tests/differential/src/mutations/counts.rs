@@ -1,6 +1,6 @@
 //! CNT: what a payload has exactly once, the symbol table's header, the size of the records' section.
 
-use super::{at, nowhere, Expect::Accepted, Expect::FileAccepted, Table};
+use super::{at, nowhere, Expect::Accepted, Expect::FileAccepted, Expect::Holds, Fact::Edits, Table};
 use crate::payloads::assemble::section_field::*;
 use crate::payloads::{Contents, Draft, Ref, Section};
 
@@ -106,11 +106,19 @@ fn three_names(t: &mut Table) {
 }
 
 fn record_sizes(t: &mut Table) {
-    for size in [0, 1, 32, 63, 65, 127, 129, 1023, 1025, 1087, 1088, 1089, 1152, 2048, 4096] {
+    for size in [0, 1, 32, 63, 65, 127, 129, 1087, 1089, 2047, 2049, 2111, 2112, 2113, 2176, 4096] {
         t.file("CNT-05", format!("funcs of {size} bytes"), at(22, "funcs"), move |d| d.bytes("funcs").resize(size, 0));
     }
-    for count in 1..=16u64 {
-        t.file("CNT-05", format!("{count} records"), Accepted, move |d| {
+    for size in [64, 1024, 1088, 1984, 2048] {
+        t.file("CNT-05", format!("funcs of {size} bytes"), FileAccepted, move |d| d.bytes("funcs").resize(size, 0));
+    }
+    for count in 1..=32u64 {
+        t.file("CNT-05", format!("{count} records"), Holds(vec![Edits(count as usize)]), move |d| {
+            d.reserve_records(count);
+        });
+    }
+    for count in [33, 34, 64] {
+        t.file("CNT-05", format!("{count} records"), at(22, "funcs"), move |d| {
             d.reserve_records(count);
         });
     }

@@ -70,15 +70,15 @@ fn fills(t: &mut Table) {
             d.set_records(&[Record::new(0, TEXT_BASE + 9, size, 31)]);
         });
     }
-    t.prepare(
-        "EDT-04",
-        "16 edits in order",
-        Holds((0..16).map(|n| Edit(n, TEXT_BASE + 31 * (15 - n as u64), vec![0x90; 31])).chain([Edits(16)]).collect()),
-        |d| {
-            let records: Vec<Record> = (0..16).map(|n| Record::new(0, TEXT_BASE + 31 * (15 - n), 31, 31)).collect();
+    for count in [16, 17, 32] {
+        // the first record is the last in the text
+        let old = move |n: usize| TEXT_BASE + 31 * (count - 1 - n) as u64;
+        let facts = (0..count).map(|n| Edit(n, old(n), vec![0x90; 31])).chain([Edits(count)]).collect();
+        t.prepare("EDT-04", format!("{count} edits in order"), Holds(facts), move |d| {
+            let records: Vec<Record> = (0..count).map(|n| Record::new(0, old(n), 31, 31)).collect();
             d.set_records(&records);
-        },
-    );
+        });
+    }
 }
 
 /// Fills by offset in text and length.
@@ -155,16 +155,13 @@ fn pair_order(t: &mut Table) {
     t.prepare("PAIR-02", "(0, 2) and (1, 3)", record(22, 2), |d| {
         d.set_records(&fill_records(&[(100, 5), (200, 5), (104, 5), (204, 5)]));
     });
-    t.prepare("PAIR-02", "(0, 15) alone", record(22, 15), |d| {
-        let mut parts: Vec<(u64, u32)> = (0..15).map(|n| (100 * n, 31)).collect();
-        parts.push((30, 1));
-        d.set_records(&fill_records(&parts));
-    });
-    t.prepare("PAIR-02", "(14, 15) alone", record(22, 15), |d| {
-        let mut parts: Vec<(u64, u32)> = (0..15).map(|n| (100 * n, 31)).collect();
-        parts.push((1430, 1));
-        d.set_records(&fill_records(&parts));
-    });
+    for (first, last) in [(0, 15), (14, 15), (0, 16), (15, 16), (0, 31), (30, 31)] {
+        t.prepare("PAIR-02", format!("({first}, {last}) alone"), record(22, last), move |d| {
+            let mut parts: Vec<(u64, u32)> = (0..last).map(|n| (100 * n, 31)).collect();
+            parts.push((100 * first + 30, 1));
+            d.set_records(&fill_records(&parts));
+        });
+    }
     t.prepare("PAIR-04", "record 5's range before the pair (0, 1)", record(34, 5), |d| {
         d.slim();
         d.slot_base = TEXT_BASE.wrapping_add(1 << 40);

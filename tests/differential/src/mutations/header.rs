@@ -43,11 +43,19 @@ fn sizes(t: &mut Table) {
     t.file("HDR-01", "file of 64 bytes: falls at e_shstrndx", nowhere(22), |d| {
         d.then(|a| a.file = table_at_zero(1, 0, &[]));
     });
-    for (len, expect) in [(16_383, Accepted), (16_384, Accepted), (16_385, nowhere(8)), (20_000, nowhere(8))] {
-        t.file("HDR-01", format!("file of {len} bytes"), expect, move |d| d.then(move |a| a.file.resize(len, 0xee)));
+    for len in [16_384, 16_385, 32_767, 32_768] {
+        t.file("HDR-01", format!("file of {len} bytes"), Accepted, move |d| d.then(move |a| a.file.resize(len, 0xee)));
     }
-    t.file("HDR-01", "file of 16,384 bytes, table last", Accepted, |d| {
-        d.then(|a| move_table(a, 16_384 - 64 * a.roles.len()));
+    for len in [32_769, 40_000, 65_536] {
+        t.file("HDR-01", format!("file of {len} bytes"), nowhere(8), move |d| {
+            d.then(move |a| a.file.resize(len, 0xee))
+        });
+    }
+    t.file("HDR-01", "file of 32,768 bytes, table last", Accepted, |d| {
+        d.then(|a| move_table(a, 32_768 - 64 * a.roles.len()));
+    });
+    t.file("HDR-01", "file of 32,769 bytes, table last", nowhere(8), |d| {
+        d.then(|a| move_table(a, 32_769 - 64 * a.roles.len()));
     });
 }
 
@@ -120,7 +128,7 @@ fn tables(t: &mut Table) {
     t.file("HDR-07", "e_shoff such that the table ends at 2^64", nowhere(8), |d| {
         d.then(|a| a.set_header(SECTION_TABLE, (64 * a.roles.len() as u64).wrapping_neg()));
     });
-    for high in [1 << 32, 1 << 63, 1 << 14] {
+    for high in [1 << 32, 1 << 63, 1 << 15] {
         t.file("HDR-07", format!("e_shoff more by {high:#x}"), nowhere(8), move |d| {
             d.then(move |a| a.set_header(SECTION_TABLE, a.table as u64 + high));
         });

@@ -100,7 +100,7 @@ fn notes(t: &mut Table) {
                 assert_eq!(d.bytes(role).len(), size);
             });
         }
-        t.file("K7", format!("{role} of 33 bytes"), at(22, role), move |d| *d.bytes(role) = note(&[0xab; 33]));
+        t.file("K7", format!("{role} of 65 bytes"), at(22, role), move |d| *d.bytes(role) = note(&[0xab; 65]));
     }
 }
 

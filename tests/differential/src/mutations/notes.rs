@@ -10,6 +10,7 @@ pub fn rows(table: &mut Table) {
     for role in ROLES {
         heads(table, role);
         lengths(table, role);
+        sizes(table, role);
         padding(table, role);
         short(table, role);
         values(table, role);
@@ -34,7 +35,7 @@ fn heads(t: &mut Table, role: &'static str) {
         "NOTE-01",
         "description size",
         4,
-        &[0, 1, 33, 36, 64, 0x114, 0x0100_0014, 0x8000_0014, 0xffff_fff0, u32::MAX],
+        &[0, 1, 32, 33, 36, 63, 64, 65, 68, 0x114, 0x0100_0014, 0x8000_0014, 0xffff_fff0, u32::MAX],
     );
     word(t, role, "NOTE-01", "type", 8, &[0, 1, 2, 4, 5, 0x103, 0x0300_0000, 0x0100_0003, u32::MAX]);
     for (byte, value) in [(12, b'g'), (13, b'n'), (14, b'u'), (15, b' '), (15, 1), (12, 0)] {
@@ -45,7 +46,7 @@ fn heads(t: &mut Table, role: &'static str) {
 }
 
 fn lengths(t: &mut Table, role: &'static str) {
-    for len in 1..=32usize {
+    for len in 1..=64usize {
         t.file("NOTE-02", format!("{role}: description of {len} bytes"), Accepted, move |d| {
             *d.bytes(role) = note(&vec![0x5a; len]);
         });
@@ -57,7 +58,7 @@ fn lengths(t: &mut Table, role: &'static str) {
             *d.bytes(role) = [note(&vec![0x5a; len]), vec![0; 4]].concat();
         });
     }
-    for len in [0, 33, 34, 36, 40, 64, 255, 256] {
+    for len in [0, 65, 66, 67, 68, 69, 72, 96, 128, 255, 256] {
         t.file("NOTE-01", format!("{role}: a whole note with a description of {len} bytes"), at(22, role), move |d| {
             *d.bytes(role) = note(&vec![0x5a; len]);
         });
@@ -78,8 +79,19 @@ fn lengths(t: &mut Table, role: &'static str) {
     });
 }
 
+/// Sizes of a description that is all zero, so that its end may be padding, in notes of 64 and of 68 bytes after their heads.
+fn sizes(t: &mut Table, role: &'static str) {
+    for (room, size) in [(64, 60), (64, 61), (64, 63), (64, 64), (64, 65), (64, 68), (68, 64), (68, 65), (68, 68)] {
+        let expect = if room == 64 && (61..=64).contains(&size) { Accepted } else { at(22, role) };
+        t.file("NOTE-02", format!("{role}: size {size} of a description in {room} bytes"), expect, move |d| {
+            *d.bytes(role) = note(&vec![0; room]);
+            d.bytes(role)[4] = size;
+        });
+    }
+}
+
 fn padding(t: &mut Table, role: &'static str) {
-    for len in [1usize, 2, 3, 5, 6, 7, 29, 30, 31] {
+    for len in [1usize, 2, 3, 5, 6, 7, 29, 30, 31, 33, 61, 62, 63] {
         for byte in len..(len + 3) / 4 * 4 {
             for value in [1, 0x80] {
                 let name = format!("{role}: description of {len}, padding byte {} is {value:#x}", byte - len);
@@ -105,7 +117,8 @@ fn short(t: &mut Table, role: &'static str) {
 }
 
 fn values(t: &mut Table, role: &'static str) {
-    let described: [&[u8]; 6] = [&[0], &[0xff], &[0; 32], &[0xff; 32], &[0xaa, 0], &[0, 0, 0, 1]];
+    let described: [&[u8]; 8] =
+        [&[0], &[0xff], &[0xff; 32], &[0xff; 33], &[0; 64], &[0xff; 64], &[0xaa, 0], &[0, 0, 0, 1]];
     for bytes in described {
         let fact = match role {
             "depends" => Fact::Dependency(bytes.to_vec()),

@@ -248,10 +248,12 @@ fn order_of_records(t: &mut Table) {
     t.prepare("REC-16", "record 1's version before record 2's name", record(22, 1), |d| {
         d.set_records(&[fill(), Record { version: 2, ..fill() }, Record::new(0, 0, 1, 1)]);
     });
-    t.prepare("REC-16", "record 15", record(22, 15), |d| {
-        d.reserve_records(16);
-        d.bytes("funcs")[15 * 64 + 32] = 9;
-    });
+    for last in [15, 16, 31] {
+        t.prepare("REC-16", format!("record {last}"), record(22, last), move |d| {
+            d.reserve_records(last + 1);
+            d.bytes("funcs")[last as usize * 64 + 32] = 9;
+        });
+    }
     t.prepare("REC-16", "relocations before records", entry(95, "rela_text", 0), |d| {
         d.set_relocations(&[Relocation { kind: 3, ..Default::default() }]);
         d.set_records(&[Record { version: 2, ..fill() }]);

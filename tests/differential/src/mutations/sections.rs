@@ -108,7 +108,7 @@ fn contents(t: &mut Table) {
 
 fn wild_contents(t: &mut Table) {
     let wild =
-        [(u64::MAX, 1), (u64::MAX, 0), (1, u64::MAX), (1 << 63, 1 << 63), (1 << 32, 1), (0, 1 << 32), (64, 1 << 14)];
+        [(u64::MAX, 1), (u64::MAX, 0), (1, u64::MAX), (1 << 63, 1 << 63), (1 << 32, 1), (0, 1 << 32), (64, 1 << 15)];
     for (offset, size) in wild {
         for role in ["data", "comment", "extra"] {
             t.file("SEC-05", format!("{role} of {size:#x} bytes at {offset:#x}"), at(22, role), move |d| {
@@ -117,7 +117,7 @@ fn wild_contents(t: &mut Table) {
             });
         }
     }
-    for offset in [u64::MAX, 1 << 63, 1 << 14] {
+    for offset in [u64::MAX, 1 << 63, 1 << 15] {
         t.file("SEC-05", format!("type 8 at {offset:#x}"), Accepted, move |d| d.set("bss", OFFSET, offset));
     }
     t.file("SEC-05", "type 8 of another placed name, past the file", Accepted, |d| {

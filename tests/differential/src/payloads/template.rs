@@ -3,6 +3,7 @@
 
 use super::draft::{Contents, Draft, Record, Ref, Relocation, Section, Symbol};
 use crate::rng::Rng;
+use crate::second::limits::BUFFERS;
 
 /// The bytes of a note section with this description.
 pub fn note(description: &[u8]) -> Vec<u8> {
@@ -35,7 +36,7 @@ pub fn template(variant: u64) -> Draft {
         text_base: TEXT_BASE,
         text_len: TEXT_LEN,
         slot_base: SLOT_BASE,
-        buffers: [8192, 768, 80],
+        buffers: BUFFERS,
         changes: Vec::new(),
     };
     if variant != 0 {

@@ -1,6 +1,7 @@
 //! The counts of the sections that a payload has exactly once, and the headers of those and of type 4 sections.
 
 use super::kinds::Kind;
+use super::limits::RECORDS;
 use super::refusal::Refusal;
 use super::sections::Section;
 
@@ -24,7 +25,7 @@ pub fn count(sections: &[Section]) -> Result<Single, Refusal> {
     let dependency = only(sections, |kind| matches!(kind, Kind::Dependency { .. }))?;
     let build_id = only(sections, |kind| matches!(kind, Kind::BuildId { .. }))?;
     let size = sections[functions].size;
-    if size % 64 != 0 || !(1..=16).contains(&(size / 64)) {
+    if size % 64 != 0 || !(1..=RECORDS as u64).contains(&(size / 64)) {
         return Err(Refusal::section(22, functions));
     }
     Ok(Single { symbols, functions, dependency, build_id })

@@ -2,6 +2,7 @@
 
 use super::bytes::{field, inside, name_at};
 use super::image::Image;
+use super::limits::UNDO_RECORD;
 use super::payload::Payload;
 use super::prepare::Surroundings;
 use super::refusal::Refusal;
@@ -47,7 +48,7 @@ fn read_edit(record: &[u8], list: &SymbolList, image: &Image, around: &Surroundi
         return Err(22);
     }
     let sizes_fit = match new_addr {
-        0 => (1..=31).contains(&new_size) && new_size <= old_size,
+        0 => (1..=UNDO_RECORD as u64).contains(&new_size) && new_size <= old_size,
         _ => new_size >= 1 && old_size >= 5 && inside_image(image, new_addr, new_size),
     };
     if !sizes_fit || !around.text_holds(old, old_size) {

@@ -1,6 +1,7 @@
 //! The file's size and its ELF header.
 
 use super::bytes::{field, inside};
+use super::limits::{FILE, FILE_LEAST, SECTIONS};
 use super::refusal::Refusal;
 
 pub struct Header {
@@ -27,14 +28,14 @@ const FIXED: [(usize, usize, u64); 8] = [
 impl Header {
     pub fn read(file: &[u8]) -> Result<Header, Refusal> {
         let wrong = Refusal::nowhere(8);
-        if !(64..=16_384).contains(&file.len()) {
+        if !(FILE_LEAST..=FILE).contains(&file.len()) {
             return Err(wrong);
         }
         if FIXED.iter().any(|&(at, width, value)| field(file, at, width) != value) {
             return Err(wrong);
         }
         let (table, count) = (field(file, 40, 8), field(file, 60, 2));
-        if !(1..=64).contains(&count) || !inside(table, 64 * count, file.len() as u64) {
+        if !(1..=SECTIONS as u64).contains(&count) || !inside(table, 64 * count, file.len() as u64) {
             return Err(wrong);
         }
         Ok(Header { table: table as usize, count: count as usize, names: field(file, 62, 2) as usize })

@@ -1,12 +1,10 @@
 //! Placement: the placed sections one after the other in a slot.
 
 use super::bytes::rounded_up;
+use super::limits::SLOT;
 use super::payload::Payload;
 use super::refusal::Refusal;
 use std::collections::HashMap;
-
-/// The bytes of a slot.
-pub const SLOT: u64 = 8192;
 
 /// The placed bytes, and where each placed section begins in them.
 pub struct Image {
@@ -20,7 +18,7 @@ impl Image {
         let mut image = Image { bytes: Vec::new(), base, starts: HashMap::new() };
         for section in payload.sections.iter().filter(|section| section.kind.is_placed()) {
             let (start, end) = next(image.bytes.len() as u64, section.alignment, section.size);
-            if end > u128::from(SLOT) {
+            if end > SLOT as u128 {
                 return Err(Refusal::section(12, section.index));
             }
             image.bytes.resize(start as usize, 0);

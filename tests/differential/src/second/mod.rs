@@ -2,9 +2,9 @@
 //! definition with the library that it is compared with, and uses other means on purpose: growing vectors, hash
 //! maps, sums in 128 bits.
 //!
-//! The stages of `prepare` stand in document 01's order: the symbol list, then the file alone (`payload`), then what
-//! the slot, the text range and the symbol list decide (`image`, `relocations`, `functions`). The calls, which keep a state
-//! in a records buffer, are in `calls`.
+//! The limits stand once, in `limits`. The stages of `prepare` stand in document 01's order: the symbol list, then the file
+//! alone (`payload`), then what the slot, the text range and the symbol list decide (`image`, `relocations`, `functions`).
+//! The calls, which keep a state in a records buffer, are in `calls`.
 
 pub mod bytes;
 pub mod calls;
@@ -13,6 +13,7 @@ pub mod functions;
 pub mod header;
 pub mod image;
 pub mod kinds;
+pub mod limits;
 pub mod notes;
 pub mod payload;
 pub mod prepare;

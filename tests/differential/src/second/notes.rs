@@ -1,6 +1,7 @@
 //! The two note sections.
 
 use super::bytes::{field, rounded_up};
+use super::limits::ID;
 use super::refusal::Refusal;
 use super::sections::Section;
 
@@ -20,7 +21,7 @@ pub fn description(note: &[u8]) -> Option<&[u8]> {
     let head = note.get(..16)?;
     let length = field(head, 4, 4);
     let right_head = field(head, 0, 4) == 4 && field(head, 8, 4) == 3 && head[12..] == *b"GNU\0";
-    if !right_head || !(1..=32).contains(&length) || note.len() as u64 != 16 + rounded_up(length, 4) {
+    if !right_head || !(1..=ID as u64).contains(&length) || note.len() as u64 != 16 + rounded_up(length, 4) {
         return None;
     }
     let (description, padding) = note[16..].split_at(length as usize);
@@ -45,7 +46,7 @@ mod tests {
         assert_eq!(note(1, 1).len(), 20);
         assert_eq!(description(&note(1, 1)), Some(&[0xaa][..]));
         assert_eq!(description(&note(1, 1)[..17]), None);
-        assert_eq!(description(&note(33, 33)), None);
-        assert_eq!(description(&note(32, 32)), Some(&[0xaa; 32][..]));
+        assert_eq!(description(&note(65, 65)), None);
+        assert_eq!(description(&note(64, 64)), Some(&[0xaa; 64][..]));
     }
 }

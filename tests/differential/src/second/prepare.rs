@@ -1,7 +1,8 @@
 //! From a payload file to a slot's bytes and the edits, and the same over the library's buffers.
 
 use super::functions::{read_edits, Edit};
-use super::image::{Image, SLOT};
+use super::image::Image;
+use super::limits::{BUFFERS, EDIT_ENTRY, ID, SLOT};
 use super::payload::Payload;
 use super::refusal::Refusal;
 use super::relocations::relocate;
@@ -20,7 +21,7 @@ impl Surroundings {
     pub fn stand(&self) -> bool {
         let top = u128::from(u64::MAX);
         let text_end = u128::from(self.text_base) + u128::from(self.text_len);
-        let slot_end = u128::from(self.slot_base) + u128::from(SLOT);
+        let slot_end = u128::from(self.slot_base) + SLOT as u128;
         let apart = text_end <= u128::from(self.slot_base) || slot_end <= u128::from(self.text_base);
         let placed = self.slot_base != 0 && self.slot_base % 4096 == 0 && slot_end <= top + 1;
         (1..=1 << 24).contains(&self.text_len) && text_end <= top + 1 && placed && apart
@@ -61,7 +62,7 @@ pub fn prepare_listed(file: &[u8], list: &SymbolList, around: &Surroundings) -> 
 /// on acceptance only.
 pub fn prepare_into(file: &[u8], symbols: &[u8], around: &Surroundings, buffers: [&mut [u8]; 3]) -> u64 {
     let [image, edits, summary] = buffers;
-    if [image.len(), edits.len(), summary.len()] != [8192, 16 * 48, 80] || !around.stand() {
+    if [image.len(), edits.len(), summary.len()] != BUFFERS || !around.stand() {
         return Refusal::nowhere(22).code();
     }
     match prepare(file, symbols, around) {
@@ -84,7 +85,7 @@ fn write(buffer: &mut [u8], parts: &[&[u8]]) {
 }
 
 fn written_edit(edit: &Edit) -> Vec<u8> {
-    let mut entry = vec![0; 48];
+    let mut entry = vec![0; EDIT_ENTRY];
     write(&mut entry, &[&edit.address.to_le_bytes(), &(edit.bytes.len() as u32).to_le_bytes(), &edit.bytes]);
     entry
 }
@@ -93,7 +94,7 @@ fn written_summary(prepared: &Prepared) -> Vec<u8> {
     let lengths = [prepared.placed.len(), prepared.edits.len(), prepared.build_id.len(), prepared.dependency.len()];
     let mut summary: Vec<u8> = lengths.iter().flat_map(|length| (*length as u32).to_le_bytes()).collect();
     for id in [&prepared.build_id, &prepared.dependency] {
-        let mut kept = vec![0; 32];
+        let mut kept = vec![0; ID];
         write(&mut kept, &[id]);
         summary.extend(kept);
     }

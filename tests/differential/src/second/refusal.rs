@@ -83,13 +83,13 @@ mod tests {
 
     #[test]
     fn codes_go_both_ways() {
-        let relocation = Place::Relocation { section: 63, entry: 682 };
-        for place in [Place::Nowhere, Place::Section(0), Place::Section(63), relocation, Place::Record(15)] {
+        let relocation = Place::Relocation { section: 63, entry: 1365 };
+        for place in [Place::Nowhere, Place::Section(0), Place::Section(63), relocation, Place::Record(31)] {
             let refusal = Refusal { number: 95, place };
             assert_eq!(Refusal::of_code(refusal.code()), Some(refusal));
         }
         assert_eq!(Refusal::section(22, 3).code(), 22 + 256 + 3 * 65536);
-        assert_eq!(Refusal { number: 3, place: relocation }.code(), 3 + 512 + 63 * 65536 + 682 * 4294967296);
+        assert_eq!(Refusal { number: 3, place: relocation }.code(), 3 + 512 + 63 * 65536 + 1365 * 4294967296);
     }
 
     #[test]

@@ -73,8 +73,8 @@ impl<'g> Driver<'g> {
         self.call(Does::Start { text_base: host.text_base, arena_base: host.arena_base, cpus: self.cpus });
         match self.mood {
             Mood::Mixed => self.rng.between(10, 60),
-            Mood::Climb => self.rng.between(30, 150),
-            Mood::Full => 330,
+            Mood::Climb => self.rng.between(40, 200),
+            Mood::Full => 640,
         }
     }
 

@@ -3,8 +3,9 @@
 use super::memory::Memory;
 use crate::rng::Rng;
 use crate::second::bytes::field;
-use crate::second::calls::codec::{edit_at, payload_at, stack_at};
+use crate::second::calls::codec::{edit_at, payload_at, stack_at, DEPENDENCY, EDITS, EDIT_COUNT, HELD};
 use crate::second::calls::state::State;
+use crate::second::limits::{CPUS, ID, NAME, RECORDS};
 
 /// Bytes to write at an offset of the records buffer.
 pub type Write = (usize, Vec<u8>);
@@ -12,12 +13,12 @@ pub type Write = (usize, Vec<u8>);
 /// Offsets and widths of the numbers before the stack, of those of a payload, and of those of an edit.
 const OF_HEAD: [(usize, usize); 12] =
     [(0, 8), (8, 8), (16, 8), (24, 4), (28, 4), (32, 8), (40, 8), (48, 4), (52, 4), (56, 4), (60, 4), (64, 4)];
-const OF_PAYLOAD: [(usize, usize); 7] = [(128, 4), (132, 4), (136, 4), (140, 4), (144, 4), (148, 4), (184, 4)];
+const OF_PAYLOAD: [(usize, usize); 7] = [(128, 4), (132, 4), (136, 4), (140, 4), (144, 4), (148, 4), (EDIT_COUNT, 4)];
 const OF_EDIT: [(usize, usize); 4] = [(0, 4), (4, 4), (8, 4), (12, 8)];
 
 /// Numbers at which rules change their mind.
-const SPECIAL: [u64; 32] = [
-    0, 1, 2, 3, 4, 5, 6, 7, 8, 9, 15, 16, 17, 30, 31, 32, 33, 63, 64, 65, 127, 128, 129, 143, 144, 4_096, 8_192,
+const SPECIAL: [u64; 33] = [
+    0, 1, 2, 3, 4, 5, 6, 7, 8, 9, 30, 31, 32, 33, 34, 63, 64, 65, 127, 128, 129, 255, 256, 257, 287, 288, 4_096, 8_192,
     16_777_216, 16_777_217, 0x8000_0000, 0xffff_ffff, 0xffff_ffff_ffff_ffff,
 ];
 
@@ -75,7 +76,7 @@ fn one_field(records: &[u8], state: &State, rng: &mut Rng) -> Write {
         }
         _ => {
             let (at, width) = rng.pick(&OF_EDIT);
-            let used = state.payloads.get(place).map_or(16, |payload| payload.edit_count as usize);
+            let used = state.payloads.get(place).map_or(RECORDS, |payload| payload.edit_count as usize);
             (edit_at(place, rng.index(used)) + at, width)
         }
     };
@@ -90,9 +91,9 @@ fn one_field(records: &[u8], state: &State, rng: &mut Rng) -> Write {
 fn flag(state: &State, rng: &mut Rng) -> Write {
     let value = rng.pick(&[0, 1, 1, 2, 0x80, 0xff]);
     match rng.below(3) {
-        0 => (68 + rng.index(64), vec![value]),
-        1 => (edit_at(place(state, rng), rng.index(16)) + 8 + rng.index(4), vec![value]),
-        _ => (edit_at(place(state, rng), rng.index(16)) + 12 + rng.index(8), vec![value]),
+        0 => (HELD + rng.index(CPUS), vec![value]),
+        1 => (edit_at(place(state, rng), rng.index(RECORDS)) + 8 + rng.index(4), vec![value]),
+        _ => (edit_at(place(state, rng), rng.index(RECORDS)) + 12 + rng.index(8), vec![value]),
     }
 }
 
@@ -100,16 +101,16 @@ fn flag(state: &State, rng: &mut Rng) -> Write {
 fn behind_the_counts(state: &State, rng: &mut Rng) -> Vec<Write> {
     let mut writes = Vec::new();
     for place in state.payloads.len()..8 {
-        writes.push((payload_at(place), rng.bytes(188)));
-        writes.push((edit_at(place, rng.index(16)), rng.bytes(8)));
+        writes.push((payload_at(place), rng.bytes(EDITS)));
+        writes.push((edit_at(place, rng.index(RECORDS)), rng.bytes(8)));
     }
     for entry in state.applied..8 {
         writes.push((stack_at(entry), rng.bytes(4)));
     }
     for (place, payload) in state.payloads.iter().enumerate() {
         let (name, dependency) = (payload.name_len as usize, payload.dependency_len as usize);
-        writes.push((payload_at(place) + name, rng.bytes(128 - name)));
-        writes.push((payload_at(place) + 152 + dependency, rng.bytes(32 - dependency)));
+        writes.push((payload_at(place) + name, rng.bytes(NAME - name)));
+        writes.push((payload_at(place) + DEPENDENCY + dependency, rng.bytes(ID - dependency)));
         writes.push((payload_at(place) + 140, rng.bytes(4)));
     }
     writes.push((48, vec![0xff; 4]));
@@ -120,10 +121,10 @@ fn behind_the_counts(state: &State, rng: &mut Rng) -> Vec<Write> {
 fn job(state: &State, rng: &mut Rng) -> Vec<Write> {
     let slots: Vec<u32> = state.payloads.iter().map(|payload| payload.slot).collect();
     let slot = if slots.is_empty() { 0 } else { rng.pick(&slots) };
-    let total = rng.pick(&[0, 0, 1, 2, 15, 16, 31, 111, 112, 127, 143]);
+    let total = rng.pick(&[0, 0, 1, 2, 31, 32, 63, 223, 224, 255, 287]);
     let numbers = [rng.pick(&[2, 3, 4, 4]), slot, rng.between(1, 3) as u32, total];
-    let held = (0..64).map(|_| u8::from(!rng.one_in(400))).collect();
-    let mut writes = vec![(52, numbers.map(u32::to_le_bytes).concat()), (68, held)];
+    let held = (0..CPUS).map(|_| u8::from(!rng.one_in(400))).collect();
+    let mut writes = vec![(52, numbers.map(u32::to_le_bytes).concat()), (HELD, held)];
     if rng.one_in(2) {
         writes.extend(stack(state, rng));
     }

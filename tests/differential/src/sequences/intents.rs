@@ -3,6 +3,7 @@
 use super::call::Does;
 use super::driver::{Driver, Mood};
 use crate::second::calls::state::{State, APPLIED, APPLY, CHECKED, REPLACE, REVERT, UNLOAD};
+use crate::second::limits::ID;
 
 /// Times for a job.
 pub const TIMES: [u32; 8] = [0, 0, 1, 2, 3, 5, 40, u32::MAX];
@@ -17,9 +18,12 @@ impl Driver<'_> {
         if state.job.action == 0 {
             return self.without_job(&state);
         }
-        let steady = self.mood != Mood::Mixed;
-        let chance = self.rng.below(if steady { 200 } else { 30 });
-        match chance {
+        let chance = match self.mood {
+            Mood::Mixed => 30,
+            Mood::Climb => 200,
+            Mood::Full => 1_000,
+        };
+        match self.rng.below(chance) {
             0 | 1 => self.action(&state, UNLOAD),
             2 | 3 => self.ask(&state),
             4 => self.upload(&state),
@@ -87,7 +91,7 @@ impl Driver<'_> {
 
     fn top_id(&self, state: &State) -> Vec<u8> {
         match state.top().and_then(|slot| state.in_slot(slot)) {
-            Some(top) => self.session.memory().ids.inner()[32 * top.slot as usize..][..top.id_len as usize].to_vec(),
+            Some(top) => self.session.memory().ids.inner()[ID * top.slot as usize..][..top.id_len as usize].to_vec(),
             None => self.ground.world.build_id.clone(),
         }
     }
@@ -147,7 +151,7 @@ impl Driver<'_> {
         let name = self.rng.pick(&unused).clone();
         let piece = pool.piece(slot, self.mood == Mood::Full, &mut self.rng);
         let ids = self.session.memory().ids.inner();
-        let last = state.payloads.last().map(|last| &ids[32 * last.slot as usize..][..last.id_len as usize]);
+        let last = state.payloads.last().map(|last| &ids[ID * last.slot as usize..][..last.id_len as usize]);
         let own = &self.ground.world.build_id[..];
         let full = self.mood == Mood::Full && state.payloads.len() == 7;
         let dependency = match self.rng.below(if self.mood == Mood::Mixed { 6 } else { 40 }) {

@@ -8,6 +8,7 @@ use super::loader::second;
 use super::memory::Memory;
 use crate::rng::Rng;
 use crate::second::calls::state::State;
+use crate::second::limits::{ID, RECORDS, SLOT, UNDO, UNDO_RECORD};
 
 /// The edits that are laid, by slot and record, in order: those of the stack, and what the job has done so far.
 fn laid(state: &State) -> Vec<(u32, usize)> {
@@ -28,11 +29,11 @@ fn laid(state: &State) -> Vec<(u32, usize)> {
 
 /// What is not as the ledger has it.
 fn faults(state: &State, memory: &Memory, start: &[u8]) -> Vec<&'static str> {
-    let (mut text, mut undo) = (start.to_vec(), vec![0; 3_968]);
+    let (mut text, mut undo) = (start.to_vec(), vec![0; UNDO]);
     for (slot, record) in laid(state) {
         let edit = &state.in_slot(slot).unwrap().edits()[record];
         let (from, length) = (edit.offset as usize, edit.length as usize);
-        let saved = 31 * (16 * slot as usize + record);
+        let saved = UNDO_RECORD * (RECORDS * slot as usize + record);
         undo[saved..saved + length].copy_from_slice(&text[from..from + length]);
         text[from..from + length].copy_from_slice(&edit.bytes());
     }
@@ -44,7 +45,7 @@ fn faults(state: &State, memory: &Memory, start: &[u8]) -> Vec<&'static str> {
     let rules = [
         ("the text", memory.text.inner() == text),
         ("the undo store", memory.undo.inner() == undo),
-        ("free slots", (0..8).filter(free).all(|slot| zero(arena, 8_192, slot) && zero(ids, 32, slot))),
+        ("free slots", (0..8).filter(free).all(|slot| zero(arena, SLOT, slot) && zero(ids, ID, slot))),
         ("statuses", state.payloads.iter().all(|payload| (payload.status == 2) == on_stack(payload.slot))),
         ("what is unused", state.unused.iter().all(|place| place.name_len == 0 && place.edits[0].length == 0)),
         ("the job's result", state.job.action == 0 || state.in_slot(state.job.slot).unwrap().result == 11),
@@ -70,5 +71,5 @@ fn random_sequences_keep_the_ledger() {
             }
         }
     }
-    assert!(steps > 100 && deepest == 8, "{steps} steps, {deepest} applied");
+    assert!(steps > 200 && deepest == 8, "{steps} steps, {deepest} applied");
 }

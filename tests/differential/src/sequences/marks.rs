@@ -9,7 +9,7 @@ pub const EIGHT_LOADED: &str = "eight payloads loaded";
 pub const SEVEN_APPLIED: &str = "a stack of seven";
 pub const EIGHT_APPLIED: &str = "a stack of eight";
 pub const OVERLAP: &str = "a payload applied over bytes of another's edits";
-pub const JOB_128: &str = "a job of 128 steps ended";
+pub const JOB_256: &str = "a job of 256 steps ended";
 pub const REPLACE_SEVEN: &str = "a replace over seven ended";
 pub const UNLOAD_GATHERING: &str = "an unload while another's job gathers";
 pub const UNLOAD_COMPLETE: &str = "an unload in a complete rendezvous";
@@ -28,7 +28,7 @@ pub const FORGED_REFUSED: &str = "forged records refused";
 pub const FORGED_ACCEPTED: &str = "forged records accepted";
 
 const ALL: [&str; 21] = [
-    EIGHT_LOADED, SEVEN_APPLIED, EIGHT_APPLIED, OVERLAP, JOB_128, REPLACE_SEVEN, UNLOAD_GATHERING, UNLOAD_COMPLETE,
+    EIGHT_LOADED, SEVEN_APPLIED, EIGHT_APPLIED, OVERLAP, JOB_256, REPLACE_SEVEN, UNLOAD_GATHERING, UNLOAD_COMPLETE,
     TIMEOUT_NONE, TIMEOUT_SOME, TIMEOUT_ALL_BUT_ONE, TICK_COMPLETE, REPORT_AGAIN, SLOT_AGAIN, REVERT_NOT_TOP,
     APPLY_WRONG, REPLACE_WRONG, BUSY_LEAVES, BUSY_UNLOAD, FORGED_REFUSED, FORGED_ACCEPTED,
 ];
@@ -116,8 +116,8 @@ impl Marks {
     }
 
     fn job_ended(&mut self, before: &State, after: &State) {
-        if steps(before).map_or(0, |steps| steps.len()) == 128 {
-            self.add(JOB_128);
+        if steps(before).map_or(0, |steps| steps.len()) == 256 {
+            self.add(JOB_256);
         }
         match before.job.action {
             REPLACE if before.applied == 7 => self.add(REPLACE_SEVEN),

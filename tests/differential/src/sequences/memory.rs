@@ -2,7 +2,7 @@
 
 use super::world::World;
 use crate::second::calls::codec::SIZE;
-use crate::second::calls::host::{ARENA, IDS, UNDO};
+use crate::second::limits::{ARENA, IDS, UNDO};
 use crate::surrounded::{first_difference, pattern, Surrounded};
 
 /// The list's three buffers: statuses, names, lengths.

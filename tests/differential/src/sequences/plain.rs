@@ -4,6 +4,7 @@ use super::world::World;
 use crate::payloads::assemble::assemble;
 use crate::payloads::draft::{Draft, Record};
 use crate::payloads::template::{note, template};
+use crate::second::limits::RECORDS;
 
 /// What a function record asks for, at an offset of the text.
 #[derive(Clone, Copy, Debug)]
@@ -35,7 +36,7 @@ impl Plain {
         draft.list.clear();
         *draft.bytes("depends") = note(&self.dependency);
         *draft.bytes("build_id") = note(&self.id);
-        draft.add_bytes("code", ".text", 16, &[0xcc; 16]);
+        draft.add_bytes("code", ".text", 16, &[0xcc; RECORDS]);
         draft.reserve_records(self.edits.len() as u64);
         let records: Vec<Record> = self.edits.iter().enumerate().map(|(at, edit)| record(&draft, at, *edit)).collect();
         draft.set_records(&records);

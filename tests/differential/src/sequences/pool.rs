@@ -5,6 +5,7 @@ use super::world::World;
 use crate::damage::{damage, symbol_list, Focus};
 use crate::payloads::random::{payload_within, Made};
 use crate::rng::Rng;
+use crate::second::limits::{ID, RECORDS};
 use std::rc::Rc;
 
 /// A payload, and where the descriptions of its notes stand in the file.
@@ -98,12 +99,12 @@ fn names(rng: &mut Rng) -> Vec<Vec<u8>> {
 impl Piece {
     fn new(world: &World, slot: usize, number: usize, rng: &mut Rng) -> Piece {
         let same = world.build_id.len() as u64;
-        let other = rng.between(1, 32);
+        let other = rng.between(1, ID as u64);
         let notes = match number {
             3 => [rng.pick(&[same, other]), other],
             _ => [same, same],
         };
-        let records = if number == 0 { 16 } else { rng.between(1, 4) };
+        let records = if number == 0 { RECORDS as u64 } else { rng.between(1, 4) };
         let made = payload_within(world.host.around(slot), records, notes, rng);
         let described = |role: &str, length: u64| {
             let (offset, _) = made.assembled.spans[made.assembled.index(role)];

@@ -2,6 +2,7 @@
 
 use crate::rng::Rng;
 use crate::second::calls::host::Host;
+use crate::second::limits::ID;
 
 #[derive(Clone)]
 pub struct World {
@@ -26,9 +27,9 @@ impl World {
         let text_len = match rng.below(8) {
             0 => rng.between(1, 40),
             1 => rng.between(2_000, 9_000),
-            _ => rng.between(500, 1_200),
+            _ => rng.between(1_000, 2_400),
         };
-        let build_id_len = rng.pick(&[1, 8, 20, 20, 20, 31, 32]);
+        let build_id_len = rng.pick(&[1, 20, 20, 20, 33, ID - 1, ID]);
         let build_id = rng.bytes(build_id_len);
         loop {
             let any = rng.number();

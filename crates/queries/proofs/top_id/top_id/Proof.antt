@@ -24,7 +24,7 @@ module _ (c : tie.Else1) where
   applied : Top (c .before .before .before .args .t1)
   applied = top _ ranges (omega arith)
 
--- its id is within its 32 bytes of the store
+-- its id is within its entry of the store
 short : (c : tie.After-payload-in) → c .payload-in .result .«id_length» ≤ idMax
 short c = rw (c .payload-in .ensures) (applied (c .before .before) .id-max)
 

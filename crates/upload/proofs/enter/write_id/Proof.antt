@@ -1,4 +1,4 @@
--- `enter::write_id` meets its contract: the entry begins at 32 times the slot.
+-- `enter::write_id` meets its contract: the entry begins at `idMax` times the slot.
 use borrow.Author.Needs.{needs}
 use Rattle.upload.proofs.enter.write_id.Statement.{statement}
 use Rattle.upload.proofs.enter.write_id.Tie as tie

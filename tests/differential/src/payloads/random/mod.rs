@@ -1,6 +1,7 @@
 //! Valid payloads of wide variety from a seed, with their symbol lists and surroundings, and what a loader must make
 //! of them.
 
+mod beyond;
 pub mod lists;
 mod plan;
 mod relocations;
@@ -11,8 +12,10 @@ use super::assemble::{assemble, header_field, input_with, Assembled};
 use super::draft::{Contents, Draft, Symbol};
 use super::Input;
 use crate::rng::Rng;
+use crate::second::limits::{BUFFERS, FILE};
 use crate::second::Surroundings;
 use crate::stated::Stated;
+pub use beyond::payload_beyond;
 use plan::Plan;
 
 /// A valid payload: its input, where things stand in the file, and what is stated of it.
@@ -39,24 +42,28 @@ pub fn payload_within(around: Surroundings, records: u64, notes: [u64; 2], rng: 
 }
 
 fn make(plan: impl Fn(&mut Rng) -> Plan, rng: &mut Rng) -> Made {
+    let (plan, draft, mut assembled) = made(plan, rng);
+    lengthen(&mut assembled.file, rng);
+    let input = input_with(&draft, assembled.file.clone());
+    Made { input, assembled, stated: state(&draft, &plan) }
+}
+
+/// A plan, its draft, and the bytes of it: no more than a file may have.
+fn made(plan: impl Fn(&mut Rng) -> Plan, rng: &mut Rng) -> (Plan, Draft, Assembled) {
     loop {
         let plan = plan(rng);
-        let (mut draft, mut stated) = draft(&plan, rng);
-        stated.placed(draft.placement().1 as u32);
+        let mut draft = draft(&plan, rng);
         noise(&mut draft, rng);
-        let mut assembled = assemble(&draft);
-        if assembled.file.len() > 16_384 {
-            continue;
+        let assembled = assemble(&draft);
+        if assembled.file.len() <= FILE {
+            return (plan, draft, assembled);
         }
-        lengthen(&mut assembled.file, rng);
-        let input = input_with(&draft, assembled.file.clone());
-        return Made { input, assembled, stated };
     }
 }
 
 /// Adds bytes that belong to nothing after a file, sometimes up to the most that a file may have.
 fn lengthen(file: &mut Vec<u8>, rng: &mut Rng) {
-    let room = 16_384 - file.len();
+    let room = FILE - file.len();
     let more = match rng.below(20) {
         0 => room,
         1 | 2 => rng.index(room + 1),
@@ -66,7 +73,7 @@ fn lengthen(file: &mut Vec<u8>, rng: &mut Rng) {
     file.extend(rng.bytes(more));
 }
 
-fn draft(plan: &Plan, rng: &mut Rng) -> (Draft, Stated) {
+fn draft(plan: &Plan, rng: &mut Rng) -> Draft {
     let mut draft = Draft {
         sections: sections::sections(plan, rng),
         symbols: vec![Symbol::new(b"", super::Ref::Number(0), 0)],
@@ -76,18 +83,18 @@ fn draft(plan: &Plan, rng: &mut Rng) -> (Draft, Stated) {
         text_base: plan.around.text_base,
         text_len: plan.around.text_len,
         slot_base: plan.around.slot_base,
-        buffers: [8192, 768, 80],
+        buffers: BUFFERS,
         changes: Vec::new(),
     };
     sections::fit(&mut draft, rng);
     relocations::fill(&mut draft, plan, rng);
-    let stated = state(&draft, plan);
-    (draft, stated)
+    draft
 }
 
 /// What a loader must make of the payload.
 fn state(draft: &Draft, plan: &Plan) -> Stated {
     let mut stated = Stated::accepted();
+    stated.placed(draft.placement().1 as u32);
     stated.edit_count(plan.records.len());
     for (index, record) in plan.records.iter().enumerate() {
         stated.edit(index, record.old, &record.edit(draft));
@@ -145,17 +152,29 @@ mod tests {
     }
 
     #[test]
+    fn every_payload_beyond_a_limit_is_refused_as_stated() {
+        for seed in 0..1000 {
+            let (input, stated) = payload_beyond(&mut Rng::new(seed));
+            assert_eq!(faults(&input, &stated), Vec::<String>::new(), "seed {seed}");
+        }
+    }
+
+    #[test]
     fn random_payloads_vary() {
         let mut counts = std::collections::BTreeSet::new();
-        let (mut longest, mut full) = (0, 0);
+        let (mut longest, mut full, mut most) = (0, 0, [0; 3]);
         for seed in 0..3000 {
             let made = payload(&mut Rng::new(seed));
+            for ((at, value), times) in [(4, 32), (8, 64), (12, 64u32)].into_iter().zip(&mut most) {
+                *times += usize::from(made.stated.bytes.contains(&(2, at, value.to_le_bytes().to_vec())));
+            }
             counts.insert(made.assembled.roles.len());
             longest = longest.max(made.input.file.len());
             full += usize::from(made.stated.bytes.contains(&(2, 0, 8192u32.to_le_bytes().to_vec())));
         }
         assert_eq!((counts.iter().next(), counts.iter().last()), (Some(&6), Some(&64)));
-        assert_eq!(longest, 16_384);
+        assert_eq!(longest, 32_768);
         assert!(full > 20, "only {full} payloads fill their slot");
+        assert!(most.iter().all(|times| *times > 100), "so many have 32 records, ids and dependencies of 64: {most:?}");
     }
 }

@@ -3,6 +3,7 @@
 use super::surroundings::{edge, surroundings};
 use crate::payloads::draft::Draft;
 use crate::rng::Rng;
+use crate::second::limits::RECORDS;
 use crate::second::Surroundings;
 use std::collections::BTreeMap;
 
@@ -57,10 +58,15 @@ impl Plan {
     /// A plan for a valid payload, or for one whose slot lies where the reach of jumps ends.
     pub fn new(at_edge: bool, rng: &mut Rng) -> Plan {
         let count = match rng.below(6) {
-            0 => 16,
-            1 => rng.between(1, 16),
+            0 => RECORDS as u64,
+            1 => rng.between(1, RECORDS as u64),
             _ => rng.between(1, 4),
         };
+        Plan::counted(count, None, at_edge, rng)
+    }
+
+    /// The same with so many records, and with notes of these lengths where they are given.
+    pub fn counted(count: u64, notes: Option<[u64; 2]>, at_edge: bool, rng: &mut Rng) -> Plan {
         let fills_only = !at_edge && rng.one_in(4);
         let fills = fills(count, fills_only, rng);
         let covered = covered(&fills);
@@ -73,7 +79,7 @@ impl Plan {
         };
         let near = fills.iter().any(Option::is_none) || rng.one_in(2);
         let around = if at_edge { edge(text_len, rng) } else { surroundings(text_len, near, rng) };
-        Plan::of(around, &fills, None, rng)
+        Plan::of(around, &fills, notes, rng)
     }
 
     /// A plan for a valid payload in a given slot, near the text: so many records, or as many as the text has room for; notes of

@@ -4,6 +4,7 @@ use super::plan::Plan;
 use crate::payloads::draft::{Contents, Draft, Ref, Section};
 use crate::payloads::template::note;
 use crate::rng::Rng;
+use crate::second::limits::{ID, SECTIONS, SLOT};
 
 /// The sections of a plan: contents of the records, symbols and relocations come later.
 pub fn sections(plan: &Plan, rng: &mut Rng) -> Vec<Section> {
@@ -11,7 +12,7 @@ pub fn sections(plan: &Plan, rng: &mut Rng) -> Vec<Section> {
     while rest.len() + 1 < plan.sections {
         rest.push(any(rng));
     }
-    rest.truncate(63);
+    rest.truncate(SECTIONS - 1);
     rng.shuffle(&mut rest);
     rest.insert(0, Section::new("zero", b"", 0, 0, Contents::Nothing(0)));
     aim(&mut rest, rng);
@@ -65,8 +66,8 @@ fn strings(plan: &Plan, rng: &mut Rng) -> Contents {
 fn note_section(role: &'static str, name: &[u8], given: Option<u64>, rng: &mut Rng) -> Section {
     let len = given.unwrap_or_else(|| match rng.below(4) {
         0 => 20,
-        1 => rng.pick(&[1, 31, 32]),
-        _ => rng.between(1, 32),
+        1 => rng.pick(&[1, ID as u64 - 1, ID as u64]),
+        _ => rng.between(1, ID as u64),
     });
     let mut id = rng.bytes(len as usize);
     if rng.one_in(6) {
@@ -183,7 +184,7 @@ fn aim(sections: &mut [Section], rng: &mut Rng) {
 
 /// Makes the placed bytes at most 8,192, sometimes exactly.
 pub fn fit(draft: &mut Draft, rng: &mut Rng) {
-    while draft.placement().1 > 8192 {
+    while draft.placement().1 > SLOT as u64 {
         let index = rng.index(draft.sections.len());
         let section = &mut draft.sections[index];
         if section.is_placed() && section.align > 16 {
@@ -194,7 +195,7 @@ pub fn fit(draft: &mut Draft, rng: &mut Rng) {
     }
     let last = draft.sections.iter().rposition(Section::is_placed);
     if let (Some(last), true) = (last, rng.one_in(10)) {
-        let missing = 8192 - draft.placement().1;
+        let missing = SLOT as u64 - draft.placement().1;
         let section = &mut draft.sections[last];
         if section.role == "eight" || (section.role == "plain" && matches!(section.contents, Contents::Bytes(_))) {
             resize(section, section.size() + missing, rng);

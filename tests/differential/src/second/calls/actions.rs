@@ -1,7 +1,8 @@
 //! Unload, revert, apply and replace.
 
-use super::host::{sizes, ID, RECORDS, SLOT, UNDO_RECORD};
+use super::host::sizes;
 use super::state::{Job, Loaded, State, APPLIED, APPLY, CHECKED, REPLACE, REVERT, UNLOAD};
+use crate::second::limits::{ID, SLOT, UNDO_SLOT};
 use crate::second::refusal::Refusal;
 
 /// What a job has as its payload's result while it stands.
@@ -79,7 +80,7 @@ impl State {
         self.version = self.version.wrapping_add(1);
         let part = |size: usize| size * slot..size * (slot + 1);
         lent.arena[part(SLOT)].fill(0);
-        lent.undo[part(UNDO_RECORD * RECORDS)].fill(0);
+        lent.undo[part(UNDO_SLOT)].fill(0);
         lent.ids[part(ID)].fill(0);
     }
 }

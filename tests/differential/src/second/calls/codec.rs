@@ -1,17 +1,23 @@
 //! The records buffer: the state as bytes. What no call looks at keeps its bytes.
 
-use super::host::{Host, SLOTS};
+use super::host::Host;
 use super::state::{Job, KeptEdit, Loaded, State};
 use crate::second::bytes::field;
+use crate::second::limits::{CPUS, ID, NAME, RECORDS, SLOTS};
 
-/// The buffer's size, that of a payload in it, and where the payloads and the stack begin.
-pub const SIZE: usize = 4_228;
-const PAYLOAD: usize = 508;
-const PAYLOADS: usize = 164;
-const STACK: usize = 132;
-/// The size of an edit, and where a payload's edits begin in it.
+/// Where the CPUs' bytes, the stack and the payloads begin, and the buffer's size.
+pub const HELD: usize = 68;
+const STACK: usize = HELD + CPUS;
+const PAYLOADS: usize = STACK + 4 * SLOTS;
+pub const SIZE: usize = PAYLOADS + PAYLOAD * SLOTS;
+/// Where a payload's dependency, the count of its edits and its edits begin in it, and its size: after the name stand six
+/// numbers.
+pub const DEPENDENCY: usize = NAME + 6 * 4;
+pub const EDIT_COUNT: usize = DEPENDENCY + ID;
+pub const EDITS: usize = EDIT_COUNT + 4;
+const PAYLOAD: usize = EDITS + EDIT * RECORDS;
+/// The size of an edit.
 const EDIT: usize = 20;
-const EDITS: usize = 188;
 
 /// Where an entry of the stack stands in the buffer.
 pub const fn stack_at(entry: usize) -> usize {
@@ -47,7 +53,7 @@ pub fn read(bytes: &[u8]) -> Option<State> {
         return None;
     }
     let mut job = Job { action: number(52), slot: number(56), ticks: number(60), steps: number(64), ..Job::none() };
-    for (held, byte) in job.held.iter_mut().zip(&bytes[68..STACK]) {
+    for (held, byte) in job.held.iter_mut().zip(&bytes[HELD..STACK]) {
         *held = flag(*byte)?;
     }
     let mut stack = [0; SLOTS];
@@ -75,11 +81,11 @@ fn read_payload(bytes: &[u8]) -> Option<Loaded> {
         result: number(140),
         id_len: number(144),
         dependency_len: number(148),
-        edit_count: number(184),
+        edit_count: number(EDIT_COUNT),
         ..Loaded::nothing()
     };
-    payload.name.copy_from_slice(&bytes[..128]);
-    payload.dependency.copy_from_slice(&bytes[152..184]);
+    payload.name.copy_from_slice(&bytes[..NAME]);
+    payload.dependency.copy_from_slice(&bytes[DEPENDENCY..EDIT_COUNT]);
     for (edit, bytes) in payload.edits.iter_mut().zip(bytes[EDITS..].chunks(EDIT)) {
         *edit = read_edit(bytes)?;
     }
@@ -127,12 +133,11 @@ fn write_payload(payload: &Loaded, bytes: &mut Vec<u8>) {
 #[cfg(test)]
 mod tests {
     use super::*;
-    use crate::second::calls::host::RECORDS;
 
     #[test]
     fn sizes_add_up() {
-        assert_eq!(EDITS + EDIT * RECORDS, PAYLOAD);
-        assert_eq!(PAYLOADS + PAYLOAD * SLOTS, SIZE);
+        assert_eq!((HELD, STACK, PAYLOADS, PAYLOAD, SIZE), (68, 132, 164, 860, 7_044));
+        assert_eq!((DEPENDENCY, EDIT_COUNT, EDITS), (152, 216, 220));
         assert_eq!(bytes(&State::started(Host::default())), vec![0; SIZE]);
     }
 
@@ -140,7 +145,7 @@ mod tests {
     fn filled() -> Vec<u8> {
         let mut buffer: Vec<u8> = (0..SIZE).map(|at| (at * 7 % 251 + 1) as u8).collect();
         buffer[32..48].copy_from_slice(&[2, 0, 0, 0, 0, 0, 0, 0, 1, 0, 0, 0, 0, 0, 0, 0]);
-        buffer[68..STACK].iter_mut().for_each(|byte| *byte &= 1);
+        buffer[HELD..STACK].iter_mut().for_each(|byte| *byte &= 1);
         for place in buffer[PAYLOADS..].chunks_mut(PAYLOAD) {
             for (number, edit) in place[EDITS..].chunks_mut(EDIT).enumerate() {
                 edit[8..12].copy_from_slice(&[(number % 2) as u8, 0, 0, 0]);

@@ -1,18 +1,7 @@
-//! What start-up is told of the host, and the sizes of the memory that it lends.
+//! What start-up is told of the host, and whether the memory that it lends has its sizes.
 
+use crate::second::limits::{ARENA, CPUS, ID, IDS, SLOT, UNDO};
 use crate::second::prepare::Surroundings;
-
-/// Sizes in bytes: the arena and a slot of it, the undo store and a record's part of it, the id store and a slot's part of it.
-pub const ARENA: usize = 65_536;
-pub const SLOT: usize = 8_192;
-pub const UNDO: usize = 3_968;
-pub const UNDO_RECORD: usize = 31;
-pub const IDS: usize = 256;
-pub const ID: usize = 32;
-
-/// Most function records of a payload, and slots.
-pub const RECORDS: usize = 16;
-pub const SLOTS: usize = 8;
 
 #[derive(Clone, Copy, Default, PartialEq, Eq, Debug)]
 pub struct Host {
@@ -35,8 +24,8 @@ impl Host {
             && self.arena_base % 4_096 == 0
             && arena_end <= whole
             && (text_end <= arena || arena_end <= text)
-            && (1..=32).contains(&self.build_id_len)
-            && (1..=64).contains(&self.cpus)
+            && (1..=ID as u32).contains(&self.build_id_len)
+            && (1..=CPUS as u32).contains(&self.cpus)
     }
 
     /// What a payload in a slot is prepared against.
@@ -61,6 +50,7 @@ mod tests {
         let host = Host { text_base: 4_096, text_len: 4_096, arena_base: 8_192, build_id_len: 20, cpus: 4 };
         assert!(host.stands());
         assert!(Host { text_base: 8_192 + 65_536, ..host }.stands());
+        assert!([1, 32, 33, 63, 64].iter().all(|length| Host { build_id_len: *length, ..host }.stands()));
         assert!(Host { text_base: u64::MAX, text_len: 1, ..host }.stands());
         assert!(Host { arena_base: 0u64.wrapping_sub(65_536), ..host }.stands());
         let refused = [
@@ -73,7 +63,7 @@ mod tests {
             Host { arena_base: 8_193, ..host },
             Host { arena_base: 0u64.wrapping_sub(61_440), ..host },
             Host { build_id_len: 0, ..host },
-            Host { build_id_len: 33, ..host },
+            Host { build_id_len: 65, ..host },
             Host { cpus: 0, ..host },
             Host { cpus: 65, ..host },
         ];

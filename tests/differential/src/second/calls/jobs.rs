@@ -1,8 +1,9 @@
 //! What moves a job on: reports, ticks, work steps.
 
-use super::host::{sizes, RECORDS, UNDO_RECORD};
+use super::host::sizes;
 use super::state::{Job, State, APPLIED, APPLY, CHECKED, REPLACE, REVERT};
 use super::steps::{steps, Step};
+use crate::second::limits::{RECORDS, UNDO_RECORD};
 use crate::second::refusal::Refusal;
 
 /// The result of a job whose time is over.

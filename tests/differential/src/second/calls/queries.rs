@@ -2,6 +2,7 @@
 
 use super::host::sizes;
 use super::state::{is_name, Loaded, State};
+use crate::second::limits::{ID, NAME};
 use crate::second::refusal::Refusal;
 
 impl Loaded {
@@ -23,7 +24,7 @@ pub struct TopId {
 }
 
 /// The parts of the list's buffers that one entry takes: status and result, name, length of the name.
-const ENTRY: [usize; 3] = [8, 128, 4];
+const ENTRY: [usize; 3] = [8, NAME, 4];
 
 impl State {
     pub fn get(&self, name: &[u8]) -> Result<[u8; 8], Refusal> {
@@ -51,7 +52,7 @@ impl State {
         let written = from.len().min(nr as usize);
         for (at, payload) in from[..written].iter().enumerate() {
             statuses[8 * at..8 * at + 8].copy_from_slice(&payload.status_bytes());
-            names[128 * at..128 * at + 128].copy_from_slice(&payload.name);
+            names[NAME * at..NAME * (at + 1)].copy_from_slice(&payload.name);
             lengths[4 * at..4 * at + 4].copy_from_slice(&payload.name_len.to_le_bytes());
         }
         Ok([written as u32, (from.len() - written) as u32, self.version])
@@ -71,7 +72,7 @@ impl State {
     /// Where the id stands that the stack stands on.
     pub fn top_id(&self) -> TopId {
         match self.top().and_then(|slot| self.in_slot(slot)) {
-            Some(top) => TopId { in_store: true, offset: 32 * top.slot as usize, length: top.id_len as usize },
+            Some(top) => TopId { in_store: true, offset: ID * top.slot as usize, length: top.id_len as usize },
             None => TopId { in_store: false, offset: 0, length: self.host.build_id_len as usize },
         }
     }

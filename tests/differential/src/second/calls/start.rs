@@ -1,8 +1,9 @@
 //! Start-up, and the upload of a payload.
 
-use super::host::{sizes, Host, ID, SLOT, SLOTS};
+use super::host::{sizes, Host};
 use super::state::{is_name, KeptEdit, Loaded, State, CHECKED};
 use crate::second::functions::Edit;
+use crate::second::limits::{ID, SLOT, SLOTS};
 use crate::second::prepare::{prepare_listed, Prepared};
 use crate::second::refusal::Refusal;
 use crate::second::symbol_list::SymbolList;

@@ -1,6 +1,7 @@
 //! What the loader keeps between calls.
 
-use super::host::{Host, RECORDS, SLOTS};
+use super::host::Host;
+use crate::second::limits::{CPUS, ID, NAME, RECORDS, SLOTS};
 
 /// The status of a payload.
 pub const CHECKED: u32 = 1;
@@ -33,7 +34,7 @@ impl KeptEdit {
 /// A loaded payload. Its placed bytes are in the arena, its id is in the id store.
 #[derive(Clone, PartialEq, Eq, Debug)]
 pub struct Loaded {
-    pub name: [u8; 128],
+    pub name: [u8; NAME],
     pub name_len: u32,
     pub slot: u32,
     pub status: u32,
@@ -41,7 +42,7 @@ pub struct Loaded {
     pub result: u32,
     pub id_len: u32,
     pub dependency_len: u32,
-    pub dependency: [u8; 32],
+    pub dependency: [u8; ID],
     pub edit_count: u32,
     pub edits: [KeptEdit; RECORDS],
 }
@@ -50,14 +51,14 @@ impl Loaded {
     /// What stands where no payload is.
     pub fn nothing() -> Loaded {
         Loaded {
-            name: [0; 128],
+            name: [0; NAME],
             name_len: 0,
             slot: 0,
             status: 0,
             result: 0,
             id_len: 0,
             dependency_len: 0,
-            dependency: [0; 32],
+            dependency: [0; ID],
             edit_count: 0,
             edits: [KeptEdit::default(); RECORDS],
         }
@@ -84,12 +85,12 @@ pub struct Job {
     pub slot: u32,
     pub ticks: u32,
     pub steps: u32,
-    pub held: [bool; 64],
+    pub held: [bool; CPUS],
 }
 
 impl Job {
     pub fn none() -> Job {
-        Job { action: 0, slot: 0, ticks: 0, steps: 0, held: [false; 64] }
+        Job { action: 0, slot: 0, ticks: 0, steps: 0, held: [false; CPUS] }
     }
 }
 
@@ -143,7 +144,7 @@ impl State {
 
 /// Whether the bytes are a name: 2 to 128 of them, the last zero and no other.
 pub fn is_name(name: &[u8]) -> bool {
-    (2..=128).contains(&name.len()) && name.iter().position(|byte| *byte == 0) == Some(name.len() - 1)
+    (2..=NAME).contains(&name.len()) && name.iter().position(|byte| *byte == 0) == Some(name.len() - 1)
 }
 
 #[cfg(test)]

@@ -14,6 +14,7 @@ pub const SCRIPTS: Scripts = &[
     ("forged jobs that are refused", refused_jobs),
     ("forged numbers that are taken", taken),
     ("forged payloads that are taken", taken_payloads),
+    ("forged numbers at their limits", taken_limits),
     ("forged jobs that are taken", taken_jobs),
 ];
 
@@ -26,8 +27,9 @@ const B: usize = payload_at(1);
 const C: usize = payload_at(2);
 const D: usize = payload_at(3);
 const EDITS: usize = edit_at(0, 0) - A;
+const EDIT_COUNT: usize = EDITS - 4;
 /// The last edit of all.
-const LAST: usize = edit_at(7, 15);
+const LAST: usize = edit_at(7, 31);
 
 /// a applied with two edits, b applied on it, c checked.
 fn three(play: &mut Play) {
@@ -72,7 +74,7 @@ fn all_refuse(play: &mut Play) {
 const REFUSED: [Change; 62] = [
     // start-up's numbers
     (8, 8, 0), (8, 8, (1 << 24) + 1), (0, 8, u64::MAX), (0, 8, 0xffff_82d0_803f_ffff), (16, 8, 0),
-    (16, 8, 0xffff_82d0_8040_0001), (16, 8, u64::MAX - 4_095), (24, 4, 0), (24, 4, 33), (28, 4, 0), (28, 4, 65),
+    (16, 8, 0xffff_82d0_8040_0001), (16, 8, u64::MAX - 4_095), (24, 4, 0), (24, 4, 65), (28, 4, 0), (28, 4, 65),
     // the counts
     (32, 8, 9), (32, 8, u64::MAX), (32, 8, 1), (32, 8, 4), (40, 8, 4), (40, 8, 1 << 32), (40, 8, 9),
     // the stack
@@ -80,7 +82,8 @@ const REFUSED: [Change; 62] = [
     // name, slot, status, lengths
     (A + 128, 4, 0), (A + 128, 4, 1), (A + 128, 4, 3), (A + 128, 4, 129), (A, 1, 0), (A + 1, 1, 1), (A + 132, 4, 8),
     (C + 132, 4, 8), (C + 132, 4, u64::MAX), (A + 136, 4, 0), (B + 136, 4, 3), (C + 136, 4, 258), (A + 144, 4, 0),
-    (B + 144, 4, 33), (C + 148, 4, 0), (C + 148, 4, 33), (A + 184, 4, 0), (A + 184, 4, 3), (A + 184, 4, 17),
+    (B + 144, 4, 65), (C + 148, 4, 0), (C + 148, 4, 65), (A + EDIT_COUNT, 4, 0), (A + EDIT_COUNT, 4, 3),
+    (A + EDIT_COUNT, 4, 33),
     // edits: a jump of 5 bytes, then 31 no-ops
     (A + EDITS + 4, 4, 4), (A + EDITS + 4, 4, 6), (A + EDITS, 4, 4_092), (A + EDITS, 4, 0xffff_ffff),
     (A + EDITS + 24, 4, 0), (A + EDITS + 24, 4, 32), (A + EDITS + 20, 4, 4_066), (C + EDITS + 4, 4, 2),
@@ -154,8 +157,8 @@ fn taken_payloads(play: &mut Play) {
     // an unload zeroes what is saved, also of one that is applied
     with(play, &[(B + 136, 4, 1), (40, 8, 1)], |play| {
         play.action("b", UNLOAD, 0, OK);
-        play.holds("slot 1 is zero in the undo store", |memory| memory.undo.inner()[496..992] == [0; 496]);
-        play.holds("slot 0 is not", |memory| memory.undo.inner()[..496] != [0; 496]);
+        play.holds("slot 1 is zero in the undo store", |memory| memory.undo.inner()[992..1_984] == [0; 992]);
+        play.holds("slot 0 is not", |memory| memory.undo.inner()[..992] != [0; 992]);
     });
     // two payloads of one name: it names the first
     with(play, &[(C, 1, u64::from(b'b'))], |play| {
@@ -173,6 +176,26 @@ fn taken_payloads(play: &mut Play) {
         play.list(0, 8, [0, 3], &[("a", 2, 0), ("b", 1, 0), ("c", 1, -33)]);
     });
     play.list(0, 8, [0, 3], &[("a", 2, 0), ("b", 2, 0), ("c", 1, 0)]);
+}
+
+/// Lengths of ids up to 64, and 32 edits.
+fn taken_limits(play: &mut Play) {
+    three(play);
+    for length in [1, 32, 33, 63, 64] {
+        for at in [24, A + 144, B + 144, C + 148] {
+            with(play, &[(at, 4, length)], |play| play.get("c", 1, 0));
+        }
+    }
+    // the edits behind the first have no bytes to write
+    for count in [2, 17, 32] {
+        with(play, &[(C + EDIT_COUNT, 4, count)], all_refuse);
+        let one_each: Vec<Change> = (1..count as usize).map(|edit| (edit_at(2, edit) + 4, 4, 1)).collect();
+        with(play, &[&one_each[..], &[(C + EDIT_COUNT, 4, count)]].concat(), |play| {
+            play.job("c", APPLY, count as u32);
+            play.top(Some(2));
+            play.job("c", REVERT, count as u32);
+        });
+    }
 }
 
 fn taken_jobs(play: &mut Play) {

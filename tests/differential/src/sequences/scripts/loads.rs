@@ -4,6 +4,7 @@ use super::play::{name, plain, Play, CPUS, OK};
 use super::Scripts;
 use crate::payloads::assemble::{header_field, list_bytes, section_field};
 use crate::payloads::draft::{Draft, Record};
+use crate::payloads::template::note;
 use crate::second::calls::state::{APPLY, UNLOAD};
 use crate::second::refusal::Refusal;
 use crate::sequences::call::Does;
@@ -31,13 +32,13 @@ fn slots(play: &mut Play) {
         play.action(&format!("p{slot}"), UNLOAD, 0, OK);
         play.holds("the freed slot and its entries are zero", |memory| {
             let part = |bytes: &[u8], size: usize| bytes[size * slot..size * (slot + 1)].iter().all(|byte| *byte == 0);
-            part(memory.arena.inner(), 8_192) && part(memory.ids.inner(), 32) && part(memory.undo.inner(), 496)
+            part(memory.arena.inner(), 8_192) && part(memory.ids.inner(), 64) && part(memory.undo.inner(), 992)
         });
     }
     play.list(0, 1, [5, 10], &[("p0", 1, 0)]);
     // the lowest free slot, below that of the applied one, and the end of the list
     play.upload("again", &plain(1, 10, 4, &EDIT), OK);
-    play.holds("the id stands in slot 1", |memory| memory.ids.inner()[32..52] == super::play::id(10));
+    play.holds("the id stands in slot 1", |memory| memory.ids.inner()[64..84] == super::play::id(10));
     play.upload("more", &plain(5, 11, 10, &EDIT), OK);
     play.list(5, 3, [0, 12], &[("p7", 1, 0), ("again", 1, 0), ("more", 1, 0)]);
     play.job("again", APPLY, 2);
@@ -70,13 +71,17 @@ fn unloads(play: &mut Play) {
 /// A payload that is wrong in one way, and its refusal.
 type Wrong = (fn(&mut Draft), fn(&Draft) -> Refusal);
 
-const WRONG: [Wrong; 8] = [
+const WRONG: [Wrong; 12] = [
     (|draft| draft.header(header_field::MACHINE, 3), |_| Refusal::nowhere(8)),
     (|draft| draft.header(header_field::NAMES, 60), |_| Refusal::nowhere(22)),
     (|draft| draft.set("code", section_field::TYPE, 14), |draft| Refusal::section(95, draft.index("code"))),
     (|draft| draft.set("code", section_field::ALIGN, 3), |draft| Refusal::section(22, draft.index("code"))),
     (|draft| draft.add_zeros("more", 1, 8_192), |draft| Refusal::section(12, draft.index("more"))),
     (|draft| *draft.bytes("build_id") = vec![0; 20], |draft| Refusal::section(22, draft.index("build_id"))),
+    (|draft| *draft.bytes("build_id") = note(&[1; 65]), |draft| Refusal::section(22, draft.index("build_id"))),
+    (|draft| *draft.bytes("depends") = note(&[1; 65]), |draft| Refusal::section(22, draft.index("depends"))),
+    (|draft| draft.reserve_records(33), |draft| Refusal::section(22, draft.index("funcs"))),
+    (|draft| draft.then(|assembled| assembled.file.resize(32_769, 0)), |_| Refusal::nowhere(8)),
     (record_too_far, |_| Refusal::record(22, 1)),
     (record_twice, |_| Refusal::record(22, 1)),
 ];

@@ -128,9 +128,14 @@ impl Play {
         self.answers(Does::Get { name: name(text) }, &stated);
     }
 
-    /// The top build-id: 0 and the length of the hypervisor's, or 1 and the place of an id of 20 bytes.
+    /// The top build-id: the hypervisor's, or one of 20 bytes in a slot's part of the id store.
     pub fn top(&mut self, slot: Option<u32>) {
-        let stated = slot.map_or([0, 0, self.world.host.build_id_len], |slot| [1, 32 * slot, 20]);
+        self.top_of(slot.map(|slot| (slot, 20)));
+    }
+
+    /// The top build-id: 0 and the length of the hypervisor's, or 1 and the place and the length of a slot's.
+    pub fn top_of(&mut self, id: Option<(u32, u32)>) {
+        let stated = id.map_or([0, 0, self.world.host.build_id_len], |(slot, length)| [1, 64 * slot, length]);
         self.answers(Does::TopBuildId, &stated.map(u32::to_le_bytes).concat());
     }
 

@@ -19,14 +19,17 @@ const TEXT: u64 = 0x20_0000;
 const ARENA: u64 = 0x40_0000;
 const MOST: u64 = 1 << 24;
 
-const STARTS: [Told; 24] = [
+const STARTS: [Told; 27] = [
     (TEXT, 4_096, ARENA, 20, 4, OK),
     (TEXT, 1, ARENA, 1, 1, OK),
     (TEXT, 0, ARENA, 20, 4, 22),
-    (MOST, MOST, ARENA, 32, 64, OK),
+    (MOST, MOST, ARENA, 64, 64, OK),
     (MOST, MOST + 1, ARENA, 20, 4, 22),
     (TEXT, 4_096, ARENA, 0, 4, 22),
-    (TEXT, 4_096, ARENA, 33, 4, 22),
+    (TEXT, 4_096, ARENA, 32, 4, OK),
+    (TEXT, 4_096, ARENA, 33, 4, OK),
+    (TEXT, 4_096, ARENA, 63, 4, OK),
+    (TEXT, 4_096, ARENA, 65, 4, 22),
     (TEXT, 4_096, ARENA, 20, 0, 22),
     (TEXT, 4_096, ARENA, 20, 65, 22),
     (TEXT, 4_096, 0, 20, 4, 22),
@@ -61,6 +64,17 @@ fn starts(play: &mut Play) {
     }
 }
 
+/// Lengths that a buffer hasn't: also those of stores and records for half as many function records and bytes of an id.
+fn wrong_sizes(buffer: Buffer, length: usize) -> Vec<usize> {
+    let half = match buffer {
+        Buffer::Records => 4_228,
+        Buffer::Undo => 3_968,
+        Buffer::Ids => 256,
+        _ => length / 2,
+    };
+    [0, 1, half, length - 1, length + 1, length + 31].into_iter().filter(|wrong| *wrong != length).collect()
+}
+
 /// Every call with every buffer too short, too long and empty: 22, also where it would be refused otherwise.
 fn sizes(play: &mut Play) {
     let payload = plain(2, 3, 2, &[Edit::Jump(9)]);
@@ -92,7 +106,7 @@ fn sizes(play: &mut Play) {
         for buffer in does.buffers() {
             let mut call = Call::from(does.clone());
             let length = play.session.length(*buffer, &call);
-            for wrong in [0, 1, length - 1, length + 1, length + 31].into_iter().filter(|wrong| *wrong != length) {
+            for wrong in wrong_sizes(*buffer, length) {
                 let own = matches!((does, buffer), (Does::Start { .. }, Buffer::Text | Buffer::BuildId));
                 if !own {
                     call.wrong = Some((*buffer, wrong));

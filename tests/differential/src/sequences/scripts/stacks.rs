@@ -5,14 +5,16 @@ use super::Scripts;
 use crate::second::calls::state::{APPLY, REPLACE, REVERT};
 use crate::sequences::call::Does;
 use crate::sequences::plain::{lay, Edit, Plain};
+use crate::sequences::world::World;
 
 pub const SCRIPTS: Scripts = &[
     ("K10", k10),
     ("a stack of eight and back", eight),
     ("edits over edits", over_edits),
-    ("a replace over seven in 128 steps", replace_seven),
+    ("a replace over seven in 256 steps", replace_seven),
     ("a replace with nothing applied", replace_nothing),
     ("dependencies by length and bytes", dependencies),
+    ("ids of up to 64 bytes", long_ids),
 ];
 
 /// "p1 applied, p2 checked, revert p2 gives 22; list(0, 8): 2 written, 0 left, version 2, ..".
@@ -89,7 +91,7 @@ fn over_edits(play: &mut Play) {
     play.text_is("that with both", &text);
     play.holds("the saved bytes are those that the edits covered", |memory| {
         let (undo, saved) = (memory.undo.inner(), [&one[66..71], &[0; 26]].concat());
-        undo[31 * 16..31 * 17] == saved && undo[31 * 17..31 * 17 + 5] == one[60..65]
+        undo[31 * 32..31 * 33] == saved && undo[31 * 33..31 * 33 + 5] == one[60..65]
     });
     play.job("second", REVERT, 2);
     play.text_is("that with the first", &one);
@@ -99,8 +101,8 @@ fn over_edits(play: &mut Play) {
     play.nothing_saved();
 }
 
-/// Sixteen edits; those of all slots cover common bytes.
-fn sixteen(slot: usize) -> Vec<Edit> {
+/// Thirty-two edits; those of all slots cover common bytes.
+fn thirty_two(slot: usize) -> Vec<Edit> {
     let edit = |at: u64| {
         if at % 3 == 0 {
             Edit::Jump(40 * at + 3 * slot as u64)
@@ -108,36 +110,36 @@ fn sixteen(slot: usize) -> Vec<Edit> {
             Edit::NoOps(40 * at + slot as u64, 20)
         }
     };
-    (0..16).map(edit).collect()
+    (0..32).map(edit).collect()
 }
 
 fn replace_seven(play: &mut Play) {
     play.start(CPUS, OK);
     for (slot, name) in NAMES.iter().enumerate() {
         let on = if slot == 7 { 0 } else { slot as u8 };
-        play.upload(name, &plain(slot, slot as u8 + 1, on, &sixteen(slot)), OK);
+        play.upload(name, &plain(slot, slot as u8 + 1, on, &thirty_two(slot)), OK);
     }
-    NAMES[..7].iter().for_each(|name| play.job(name, APPLY, 16));
+    NAMES[..7].iter().for_each(|name| play.job(name, APPLY, 32));
     play.action("p5", REVERT, 0, 33);
     play.action("p7", REPLACE, 9, OK);
     play.report_all();
-    play.work(112, OK);
+    play.work(224, OK);
     let mut text = play.world.text.clone();
-    play.text_is("that at start-up, after 112 steps", &text);
+    play.text_is("that at start-up, after 224 steps", &text);
     play.nothing_saved();
-    play.work(15, OK);
+    play.work(31, OK);
     play.get("p7", 1, -11);
     play.get("p6", 2, 0);
     play.top(Some(6));
     play.work(1, OK);
-    lay(&mut text, &plain(7, 8, 0, &sixteen(7)).writes(&play.world));
+    lay(&mut text, &plain(7, 8, 0, &thirty_two(7)).writes(&play.world));
     play.text_is("that with the last one alone", &text);
     play.top(Some(7));
     let results = |slot: usize| if slot == 5 { -33 } else { 0 };
     let entries: Vec<(&str, u32, i32)> =
         (0..8).map(|slot| (NAMES[slot], if slot == 7 { 2 } else { 1 }, results(slot))).collect();
     play.list(0, 8, [0, 8], &entries);
-    play.job("p7", REVERT, 16);
+    play.job("p7", REVERT, 32);
     play.nothing_saved();
 }
 
@@ -173,4 +175,27 @@ fn dependencies(play: &mut Play) {
     play.job("right", APPLY, 1);
     play.action("padded", APPLY, 0, 33);
     play.job("on", APPLY, 1);
+}
+
+fn long_ids(play: &mut Play) {
+    let (host, edit) = (play.world.host, [Edit::NoOps(9, 1)]);
+    play.move_to(World::new(host.text_base, host.text_len, host.arena_base, &[7; 64], CPUS));
+    play.start(CPUS, OK);
+    play.upload("a", &Plain::new(0, &[1; 64], &[7; 64], &edit), OK);
+    play.upload("b", &Plain::new(1, &[2; 33], &[1; 64], &edit), OK);
+    play.upload("c", &Plain::new(2, &[3; 63], &[2; 33], &edit), OK);
+    play.upload("short", &Plain::new(3, &[4; 32], &[1; 63], &edit), OK);
+    play.upload("other", &Plain::new(4, &[5; 32], &[[7; 63].as_slice(), &[8]].concat(), &edit), OK);
+    play.holds("the ids stand side by side, zeros after them", |memory| {
+        let ids = memory.ids.inner();
+        let stated = [vec![1; 64], vec![2; 33], vec![0; 31], vec![3; 63], vec![0; 1], vec![4; 32]].concat();
+        ids[..stated.len()] == stated
+    });
+    play.action("other", REPLACE, 0, 33);
+    play.top_of(None);
+    for (slot, (name, length)) in [("a", 64), ("b", 33), ("c", 63)].into_iter().enumerate() {
+        play.action("short", APPLY, 0, 33);
+        play.job(name, APPLY, 1);
+        play.top_of(Some((slot as u32, length)));
+    }
 }
