@@ -22,7 +22,7 @@ use Rattle.machine.specs.Machine.{editBytes}
 use Rattle.machine.specs.X86.{x86-64, fitsFourBytes, typeOf, jumpLength, displacementOf, isFillSize}
 use Rattle.machine.specs.declared.fields.FieldType.the-variants as field
 use Rattle.machine.specs.declared.processor.Processor.the-variants.{X86_64}
-use Rattle.notes.specs.Notes.{idLength, padded, noteHeadOk, noteOk}
+use Rattle.notes.specs.Notes.{idLength, noteHeadOk, noteOk}
 use Rattle.notes.proofs.NoteLaws.{note-ok-length}
 use Rattle.placement.specs.Placement.{isPlaced, nextMultiple, endBefore, offsetOf}
 use Rattle.linking.specs.Linking.{Linking}
@@ -113,14 +113,6 @@ module _ (l : Linking) (area : Area) (r : elf.Relocation) where
 
 -- ---- K7: notes
 
--- a note that is right is as long as its id says
-note-length : (note : List ℕ) → noteOk note ≡ true → length note ≡ 16 + padded (idLength note)
-note-length note h = note-ok-length note h .0
-
--- the longest has the longest id
-note-most : (note : List ℕ) → noteOk note ≡ true → length note ≤ 80
-note-most note h = omega (arith, note-ok-length note h)
-
 -- one whose id is too long is wrong
 long-id : (note : List ℕ) (d : ℕ) → idLength note ≡ d → idMax < d → noteOk note ≡ false
 long-id note d e long = by-test (noteOk note) refl
@@ -149,8 +141,8 @@ known-answers =
       k6 = (refl, refl, refl);
       k7-20 = (refl, refl);
       k7-1 = (refl, refl);
-      k7-length = note-length;
-      k7-most = note-most;
+      k7-length = λ note right. note-ok-length note right .0;
+      k7-most = λ note right. omega (arith, note-ok-length note right);
       k7-65 = λ file ss i rest note size. rw (note, long-id _ _ size (omega arith));
       k8-stands = λ p at old f plain none size room.
           rw (fill-made p at old f plain (rw none) (fill-right p f (plain .machine) _ size refl room), size);

@@ -127,8 +127,10 @@ pub record KnownAnswers : Type 0 where
   -- "K7 a 20-byte id: 36-byte note section; 1 byte: 20; 65: refused" (W1)
   pub k7-20 : (noteOk (noteWith 20) ≡ true) × (length (noteWith 20) ≡ 36)
   pub k7-1 : (noteOk (noteWith 1) ≡ true) × (length (noteWith 1) ≡ 20)
+  -- the length for every id, and so at most 80 bytes
   pub k7-length : (note : List ℕ) → noteOk note ≡ true → length note ≡ 16 + padded (idLength note)
   pub k7-most : (note : List ℕ) → noteOk note ≡ true → length note ≤ 80
+  -- the refused one
   pub k7-65 :
       (file : List ℕ) (ss : List SectionEntry) (i : ℕ) (rest : Verdict) → isNoteKind (sectionIn ss i .kind) ≡ true →
       idLength (contentsOf file (sectionIn ss i .header)) ≡ 65 → one-note file ss i rest ≡ must false 22 (Section i)

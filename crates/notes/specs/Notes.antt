@@ -1,4 +1,4 @@
--- Document 01: "Each of the two note sections is one note: sizes 4 and d (1 to 64), type 3, GNU and a zero, d bytes, zeros to a multiple of 4, nothing more." (64 by W1)
+-- Document 01: "Each of the two note sections is one note: sizes 4 and d (1 to 64), type 3, GNU and a zero, d bytes, zeros to a multiple of 4, nothing more." (W1)
 use Prim.Native.Nat.{ℕ, _+_, _*_, _/_}
 use mathlib.Core.Bool.{Bool, cond, _&&_}
 use mathlib.Core.List.{List}
@@ -27,7 +27,7 @@ idLength note = noteOf note .«n_descsz»
 abbrev pub padded : ℕ → ℕ
 padded d = 4 * ((d + 3) / 4)
 
--- "sizes 4 and d (1 to 64), type 3, GNU and a zero": the four bytes 47 4e 55 00
+-- "sizes 4 and d (1 to 64), type 3, GNU and a zero" (W1): the four bytes 47 4e 55 00
 unfoldable pub noteHeadOk : Note → Bool
 noteHeadOk head =
     eqb (head .«n_namesz») 4
