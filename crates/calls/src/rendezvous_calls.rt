@@ -4,10 +4,10 @@ ghost use Rattle.rendezvous.specs.Rendezvous.{reportOf, tickOf};
 ghost use Rattle.state_bytes.specs.Stored.{stateIn};
 ghost use Rattle.calls.specs.Changes.{reportTold, tickTold};
 ghost use Rattle.calls.specs.Told.{told, RecordsKept};
-use in_place::reporting;
 use records::refusal::Place;
 use records::refusal::Reason;
 use records::refusal::Refusal;
+use report_in_place::reporting;
 use state_bytes::buffer;
 
 // The CPU `cpu` is held.

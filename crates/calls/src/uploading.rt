@@ -2,13 +2,13 @@
 ghost use Rattle.upload.specs.Upload.{lent, request};
 ghost use Rattle.calls.specs.Changes.{Uploads};
 ghost use Rattle.calls.specs.Told.{told};
-use in_place::uploading;
 use records::refusal::Place;
 use records::refusal::Reason;
 use records::refusal::Refusal;
 use records::refusal::Verdict;
 use state_bytes::buffer;
 use state_bytes::parts;
+use upload_in_place::uploading;
 
 // The payload `file` under `name`, its undefined symbols looked up in `list`. Accepted, the records, the lowest free slot and its id store entry are
 // written; refused, nothing is.

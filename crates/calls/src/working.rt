@@ -19,6 +19,6 @@ pub fn work(records: &mut [u8], text: &mut [u8], undo: &mut [u8]) -> u64
     if !buffer::is_state(records) {
         return Refusal::new(Reason::Invalid, Place::Nowhere).code();
     }
-    let verdict = in_place::working::work(records, text, undo);
+    let verdict = work_in_place::working::work(records, text, undo);
     verdict.code()
 }

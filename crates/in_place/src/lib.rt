@@ -1,8 +1,3 @@
-// Upload, report, tick and work step made in the records buffer: the state is not loaded, and only the bytes that change are written.
-pub(crate) mod change;
-pub(crate) mod end;
+// What the calls look up in the records buffer: the outline of its state, whether its numbers lie in their ranges, the payload of a name or a slot. The state is not loaded.
 pub mod find;
 pub mod range;
-pub mod reporting;
-pub mod uploading;
-pub mod working;

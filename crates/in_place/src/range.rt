@@ -14,7 +14,7 @@ use ranges::outline::Outline;
 use state_bytes::parts;
 use words::bytes::Found;
 
-pub(crate) fn outline(b: &[u8]) -> Outline
+pub fn outline(b: &[u8]) -> Outline
     requires { ⌜ (length (now b) ≡ recordsSize) × (stateIn (now b) .count ≤ slotCount) ⌝ }
     ensures { λ r. ⌜ Outlines r (stateIn (now (b .entry))) ⌝ }
 {
@@ -44,7 +44,7 @@ pub(crate) fn outline(b: &[u8]) -> Outline
 }
 
 // The place in the list of the payload in this slot.
-pub(crate) fn with_slot(b: &[u8], slot: u32) -> Found
+pub fn with_slot(b: &[u8], slot: u32) -> Found
     requires { ⌜ (length (now b) ≡ recordsSize) × (stateIn (now b) .count ≤ slotCount) ⌝ }
     ensures { λ r. ⌜ (r ≡ withSlot (stateIn (now (b .entry))) slot) × ((i : ℕ) → r ≡ Found.At i → i < slotCount) ⌝ }
 {

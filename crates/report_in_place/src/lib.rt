@@ -1,0 +1,3 @@
+// Report and tick made in the records buffer: the state is not loaded, and only the bytes that change are written.
+pub(crate) mod change;
+pub mod reporting;

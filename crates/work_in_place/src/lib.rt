@@ -1,0 +1,4 @@
+// A work step made in the records buffer: the state is not loaded, and only the bytes that change are written.
+pub(crate) mod change;
+pub(crate) mod end;
+pub mod working;
