@@ -8,6 +8,7 @@ use records::refusal::Place;
 use records::refusal::Reason;
 use records::refusal::Refusal;
 use state_bytes::buffer;
+use state_writes::whole;
 
 // Unload is done at once; revert, apply and replace become the job. A refusal for the payload's status or for the stack sets its last result.
 pub fn action(
@@ -42,7 +43,7 @@ pub fn action(
         time,
     );
     let next = called.state;
-    buffer::store(records, next);
+    whole::store(records, next);
     let verdict = called.verdict;
     verdict.code()
 }

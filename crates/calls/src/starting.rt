@@ -7,6 +7,7 @@ use records::refusal::Reason;
 use records::refusal::Refusal;
 use records::refusal::Verdict;
 use state_bytes::buffer;
+use state_writes::whole;
 
 // Arena and stores are zeroed, and the records are those of a state in which nothing is loaded. Refused, nothing is written.
 pub fn start(
@@ -47,6 +48,6 @@ pub fn start(
         return r.code();
     }
     let next = called.state;
-    buffer::store(records, next);
+    whole::store(records, next);
     0
 }

@@ -8,6 +8,7 @@ ghost use Rattle.state.specs.State.{withResult};
 ghost use Rattle.state_bytes.specs.Stored.{stateIn, isState, HoldsState};
 use in_place::range;
 use state_bytes::parts;
+use state_writes::single;
 use words::bytes::Found;
 
 // The last result of the payload in a slot.
@@ -20,5 +21,5 @@ pub(crate) fn set_result_in(b: &mut [u8], slot: u32, result: u32)
     };
     let mut payload = parts::payload(b, i);
     payload.result = result;
-    parts::put_payload(b, i, payload);
+    single::put_payload(b, i, payload);
 }

@@ -11,6 +11,7 @@ use records::refusal::Reason;
 use records::refusal::Verdict;
 use state::state::Job;
 use state_bytes::parts;
+use state_writes::single;
 
 // The CPU `cpu` is held.
 pub fn report(b: &mut [u8], cpu: u32) -> Verdict
@@ -30,7 +31,7 @@ pub fn report(b: &mut [u8], cpu: u32) -> Verdict
         return Verdict::refused(Reason::Invalid, Place::Nowhere);
     }
     job.held[cpu as usize] = true;
-    parts::put_job(b, job);
+    single::put_job(b, job);
     Verdict::Pass
 }
 
@@ -41,7 +42,7 @@ fn time_out(b: &mut [u8], slot: u32)
 {
     change::set_result_in(b, slot, 16);
     let none = Job::none();
-    parts::put_job(b, none);
+    single::put_job(b, none);
 }
 
 // One tick of the time that a job has to gather the CPUs.
@@ -66,6 +67,6 @@ pub fn tick(b: &mut [u8]) -> Verdict
         return Verdict::Pass;
     }
     job.time -= 1;
-    parts::put_job(b, job);
+    single::put_job(b, job);
     Verdict::Pass
 }

@@ -1,11 +1,8 @@
-mod Back
 mod Canonical
-mod Fields
+pub mod Fields
 pub mod Laws
 mod Loads
-mod Readers
-mod Replaced
-mod Rows
-mod Same
+pub mod Readers
+pub mod Rows
+pub mod Same
 mod SameRecords
-mod Stored

@@ -1,8 +1,8 @@
-// The records buffer: which bytes are a state's, the state loaded and stored.
+// The records buffer: which bytes are a state's, and the state loaded.
 ghost use mathlib.Core.Path.{_≡_};
 ghost use lib.ListN.{length};
 ghost use Rattle.state_bytes.specs.Layout.{recordsSize};
-ghost use Rattle.state_bytes.specs.Stored.{stateIn, isState, HoldsState};
+ghost use Rattle.state_bytes.specs.Stored.{stateIn, isState};
 use super::head;
 use super::layout;
 use super::numbers;
@@ -50,20 +50,4 @@ pub fn load(b: &[u8]) -> State
         stack,
         job,
     }
-}
-
-// The state's bytes over the buffer; read back, they give the state.
-pub fn store(b: &mut [u8], state: State)
-    requires { ⌜ length (now b) ≡ recordsSize ⌝ }
-    ensures { λ r. ⌜ HoldsState state (now (b .exit)) ⌝ }
-{
-    let config = state.config;
-    let job = state.job;
-    let stack = state.stack;
-    let payloads = state.payloads;
-    head::store_config(b, config);
-    head::store_counts(b, state);
-    head::store_job(b, job);
-    head::store_stack(b, stack);
-    payloads::store_payloads(b, payloads);
 }

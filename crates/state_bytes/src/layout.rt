@@ -2,24 +2,24 @@
 use memory::config::Config;
 use records::payload::Payload;
 
-pub(crate) const EDIT_SIZE: usize = 20;
+pub const EDIT_SIZE: usize = 20;
 
-pub(crate) const DEPENDENCY_AT: usize = Payload::NAME_MAX + 24;
+pub const DEPENDENCY_AT: usize = Payload::NAME_MAX + 24;
 
-pub(crate) const EDIT_COUNT_AT: usize = DEPENDENCY_AT + Payload::ID_MAX;
+pub const EDIT_COUNT_AT: usize = DEPENDENCY_AT + Payload::ID_MAX;
 
-pub(crate) const EDITS_AT: usize = EDIT_COUNT_AT + 4;
+pub const EDITS_AT: usize = EDIT_COUNT_AT + 4;
 
-pub(crate) const PAYLOAD_SIZE: usize = EDITS_AT + EDIT_SIZE * Payload::RECORDS_MAX;
+pub const PAYLOAD_SIZE: usize = EDITS_AT + EDIT_SIZE * Payload::RECORDS_MAX;
 
-pub(crate) const COUNT_AT: usize = 32;
+pub const COUNT_AT: usize = 32;
 
-pub(crate) const JOB_AT: usize = COUNT_AT + 20;
+pub const JOB_AT: usize = COUNT_AT + 20;
 
-pub(crate) const HELD_AT: usize = JOB_AT + 16;
+pub const HELD_AT: usize = JOB_AT + 16;
 
-pub(crate) const STACK_AT: usize = HELD_AT + Config::CPUS_MAX;
+pub const STACK_AT: usize = HELD_AT + Config::CPUS_MAX;
 
-pub(crate) const PAYLOADS_AT: usize = STACK_AT + 4 * Config::SLOTS;
+pub const PAYLOADS_AT: usize = STACK_AT + 4 * Config::SLOTS;
 
-pub(crate) const RECORDS_SIZE: usize = PAYLOADS_AT + PAYLOAD_SIZE * Config::SLOTS;
+pub const RECORDS_SIZE: usize = PAYLOADS_AT + PAYLOAD_SIZE * Config::SLOTS;

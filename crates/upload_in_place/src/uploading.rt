@@ -16,6 +16,7 @@ use ranges::outline;
 use records::payload::Payload;
 use records::refusal::Reason;
 use state_bytes::parts;
+use state_writes::single;
 use upload::enter;
 use upload::room;
 use upload::room::Room;
@@ -41,9 +42,9 @@ fn append(b: &mut [u8], payload: Payload)
 {
     let count = parts::count(b);
     let version = parts::version(b);
-    parts::put_payload(b, count, payload);
-    parts::put_count(b, count + 1);
-    parts::put_version(b, std::num::wrapping_add_u32(version, 1));
+    single::put_payload(b, count, payload);
+    single::put_count(b, count + 1);
+    single::put_version(b, std::num::wrapping_add_u32(version, 1));
 }
 
 // The payload that was prepared for this slot, under `name`: its id in the id store, its record last in the list.

@@ -7,6 +7,7 @@ ghost use Rattle.state.specs.Change.{changedAt};
 ghost use Rattle.state.specs.State.{withStatus};
 ghost use Rattle.state_bytes.specs.Stored.{stateIn, isState, HoldsState};
 use state_bytes::parts;
+use state_writes::single;
 
 // The status of the payload at place `i` of the list.
 pub(crate) fn set_status(b: &mut [u8], i: usize, status: u32)
@@ -15,5 +16,5 @@ pub(crate) fn set_status(b: &mut [u8], i: usize, status: u32)
 {
     let mut payload = parts::payload(b, i);
     payload.status = status;
-    parts::put_payload(b, i, payload);
+    single::put_payload(b, i, payload);
 }

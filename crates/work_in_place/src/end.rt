@@ -14,6 +14,7 @@ use ranges::counts;
 use state::state::Job;
 use state::state::State;
 use state_bytes::parts;
+use state_writes::single;
 use words::bytes::Found;
 
 // The stack after the job.
@@ -24,19 +25,19 @@ fn set_stack(b: &mut [u8])
     let job = parts::job(b);
     let depth = parts::depth(b);
     if job.action == Job::REVERT {
-        parts::put_depth(b, depth - 1);
+        single::put_depth(b, depth - 1);
         return;
     }
     let mut stack = parts::stack(b);
     if job.action == Job::APPLY {
         stack[depth] = job.slot;
-        parts::put_stack(b, stack);
-        parts::put_depth(b, depth + 1);
+        single::put_stack(b, stack);
+        single::put_depth(b, depth + 1);
         return;
     }
     stack[0] = job.slot;
-    parts::put_stack(b, stack);
-    parts::put_depth(b, 1);
+    single::put_stack(b, stack);
+    single::put_depth(b, 1);
 }
 
 // A replace leaves every payload that it took off with status 1.
@@ -67,7 +68,7 @@ fn finish(b: &mut [u8], slot: u32, action: u32)
     let mut payload = parts::payload(b, i);
     payload.result = 0;
     payload.status = steps::end::status_after(action);
-    parts::put_payload(b, i, payload);
+    single::put_payload(b, i, payload);
 }
 
 // The state after the job's last step.
@@ -80,7 +81,7 @@ fn end_job(b: &mut [u8])
     take_down(b);
     finish(b, job.slot, job.action);
     let none = Job::none();
-    parts::put_job(b, none);
+    single::put_job(b, none);
 }
 
 // The state after one more step.
@@ -94,5 +95,5 @@ pub(crate) fn next(b: &mut [u8])
         return;
     }
     job.steps += 1;
-    parts::put_job(b, job);
+    single::put_job(b, job);
 }

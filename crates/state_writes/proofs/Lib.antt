@@ -1,0 +1,3 @@
+mod Back
+mod Replaced
+mod Stored
