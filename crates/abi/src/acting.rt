@@ -2,7 +2,7 @@
 ghost use mathlib.Core.Path.{_≡_};
 ghost use Rattle.actions.specs.Actions.{lent, request, actionOf};
 ghost use Rattle.state_bytes.specs.Stored.{stateIn};
-ghost use Rattle.calls.specs.Changes.{actionTold};
+ghost use Rattle.action_calls.specs.Changes.{actionTold};
 ghost use Rattle.calls.specs.Told.{told, RecordsKept};
 
 // Unload is done at once; revert, apply and replace become the job. A refusal for the payload's status or for the stack sets its last result.
@@ -25,5 +25,5 @@ pub extern "C" fn urddolwy_action(
         (lent (now (arena .entry)) (now (undo .entry)) (now (ids .entry))) (request (now (name .entry)) command time) .state)
         (now (records .exit)) ⌝ }
 {
-    calls::acting::action(records, arena, undo, ids, build_id, name, command, time)
+    action_calls::acting::action(records, arena, undo, ids, build_id, name, command, time)
 }

@@ -1,6 +1,6 @@
 // Start-up.
 ghost use mathlib.Core.Path.{_≡_};
-ghost use Rattle.calls.specs.Changes.{memory, startLent, startTold, StartKept};
+ghost use Rattle.action_calls.specs.Changes.{memory, startLent, startTold, StartKept};
 ghost use Rattle.state_bytes.specs.Layout.{recordsSize};
 ghost use Rattle.calls.specs.Told.{told};
 use state_bytes::buffer;
@@ -27,7 +27,7 @@ pub extern "C" fn urddolwy_start(
         (now («build_id» .entry)) cpus)
         (now (records .exit)) ⌝ }
 {
-    calls::starting::start(
+    action_calls::starting::start(
         records,
         text,
         text_base,

@@ -1,6 +1,6 @@
 // An upload.
 ghost use Rattle.upload.specs.Upload.{lent, request};
-ghost use Rattle.calls.specs.Changes.{Uploads};
+ghost use Rattle.upload_call.specs.Changes.{Uploads};
 ghost use Rattle.calls.specs.Told.{told};
 
 // The payload `file` under `name`, its undefined symbols looked up in `list`. Accepted, the records, the lowest free slot and its id store entry are
@@ -18,5 +18,5 @@ pub extern "C" fn urddolwy_upload(
         (request (now (name .entry)) (now (list .entry)) (now (file .entry)))
         (told r (now (records .exit)) (lent (now (arena .exit)) (now (ids .exit)))) ⌝ }
 {
-    calls::uploading::upload(records, arena, ids, name, list, file)
+    upload_call::uploading::upload(records, arena, ids, name, list, file)
 }

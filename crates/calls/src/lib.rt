@@ -1,7 +1,3 @@
-// The calls over the records buffer. Upload, report, tick and work step are made in it; for the others the state is loaded from it and stored again. No
-// function asks anything of its caller.
-pub mod acting;
+// Report, tick and work step over the records buffer: each is made in it. No function asks anything of its caller.
 pub mod rendezvous_calls;
-pub mod starting;
-pub mod uploading;
 pub mod working;

@@ -14,9 +14,9 @@ use Rattle.state.specs.State.{stateWith}
 use Rattle.startup.specs.Start.{Lent, configFor, Started, startOf}
 use Rattle.state_bytes.specs.Layout.{recordsSize}
 use Rattle.state_bytes.specs.Stored.{bytesOf, stateIn, isState, HoldsState}
-use Rattle.calls.specs.Changes.{Memory, memory, startTold, StartKept}
+use Rattle.action_calls.specs.Changes.{Memory, memory, startTold, StartKept}
 use Rattle.calls.specs.Told.{Told, told, invalid}
-use Rattle.calls.proofs.StartLaws.{accepted-state}
+use Rattle.action_calls.proofs.StartLaws.{accepted-state}
 use Rattle.model.specs.Model.{opened}
 use Rattle.invariant.specs.Sound.{Sound}
 use Rattle.refinement.specs.Stands.{Loader, Stands}

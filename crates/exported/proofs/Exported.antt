@@ -17,7 +17,9 @@ use Rattle.queries.proofs.TopIdLaws.{id-there}
 use Rattle.listing.specs.List as list
 use Rattle.rendezvous.specs.Rendezvous.{reportOf, tickOf}
 use Rattle.work.specs.Work as work
-use Rattle.calls.specs.Changes.{memory, startLent, startTold, uploadTold, actionTold, reportTold, tickTold, workTold}
+use Rattle.calls.specs.Changes.{reportTold, tickTold, workTold}
+use Rattle.upload_call.specs.Changes.{uploadTold}
+use Rattle.action_calls.specs.Changes.{memory, startLent, startTold, actionTold}
 use Rattle.questions.specs.Questions.{getSize, listSize, topSize, placeBytes}
 use Rattle.calls.specs.Told.{told, invalid}
 use Rattle.model.specs.Calls as model

@@ -1,7 +1,7 @@
 // An upload.
 ghost use Rattle.upload.specs.Upload.{lent, request};
-ghost use Rattle.calls.specs.Changes.{Uploads};
+ghost use Rattle.upload_call.specs.Changes.{Uploads};
 ghost use Rattle.calls.specs.Told.{told};
 use records::refusal::Place;
 use records::refusal::Reason;
 use records::refusal::Refusal;

@@ -12,12 +12,12 @@ use Rattle.state.proofs.Whole.{Whole}
 use Rattle.upload.specs.Upload.{Lent, lent, Request, request, requestRules, roomBy, uploaded}
 use Rattle.upload.proofs.StageLaws.{refused-request, ready, refused-payload, enterable, accepted}
 use Rattle.state_bytes.specs.Stored.{stateIn, isState}
-use Rattle.calls.specs.Changes.{uploadTold}
+use Rattle.upload_call.specs.Changes.{uploadTold}
 use Rattle.state_bytes.proofs.Laws.{state-length, whole-in}
 use Rattle.calls.proofs.Laws.{told-invalid, refused-told, refused-kept}
-use Rattle.calls.proofs.UploadLaws.{uploads-told, call-told, refusal-told}
-use Rattle.calls.proofs.uploading.upload.Statement.{statement}
-use Rattle.calls.proofs.uploading.upload.Tie as tie
+use Rattle.upload_call.proofs.UploadLaws.{uploads-told, call-told, refusal-told}
+use Rattle.upload_call.proofs.uploading.upload.Statement.{statement}
+use Rattle.upload_call.proofs.uploading.upload.Tie as tie
 
 returns : tie.Need-returns
 unfolding uploadTold

@@ -2,8 +2,8 @@
 ghost use mathlib.Core.Path.{_≡_};
 ghost use Rattle.actions.specs.Actions.{lent, request, actionOf};
 ghost use Rattle.state_bytes.specs.Stored.{stateIn};
-ghost use Rattle.calls.specs.Changes.{actionTold};
+ghost use Rattle.action_calls.specs.Changes.{actionTold};
 ghost use Rattle.calls.specs.Told.{told, RecordsKept};
 use records::refusal::Place;
 use records::refusal::Reason;
 use records::refusal::Refusal;

@@ -16,9 +16,9 @@ use Rattle.upload.specs.Upload as upload
 use Rattle.upload.proofs.Accepting.{uploads}
 use Rattle.state_bytes.specs.Stored.{stateIn, isState, HoldsState}
 use Rattle.state_bytes.proofs.Laws.{holds-still}
-use Rattle.calls.specs.Changes.{uploadTold, Acceptable, Uploads}
+use Rattle.upload_call.specs.Changes.{uploadTold, Acceptable, Uploads}
 use Rattle.calls.specs.Told.{Told, told, invalid, stored, overRecords, RecordsKept}
 use Rattle.calls.proofs.Laws.{outcome-told}
 
 module _ (b : List ℕ) (l : upload.Lent) (q : upload.Request) where
   abbrev call : upload.Uploaded

@@ -18,8 +18,8 @@ use Rattle.state.specs.declared.state.State.{State}
 use Rattle.startup.specs.Start.{Lent, configFor, startRules, Started, started, startOf}
 use Rattle.state_bytes.specs.Layout.{recordsSize}
 use Rattle.state_bytes.specs.Stored.{bytesOf, HoldsState}
-use Rattle.calls.specs.Changes.{memory, startTold, StartKept}
+use Rattle.action_calls.specs.Changes.{memory, startTold, StartKept}
 use Rattle.calls.specs.Told.{told, invalid}
 
 module _ (b : List ℕ) (l : Lent) where
   -- records of another size

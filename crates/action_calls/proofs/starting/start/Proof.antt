@@ -5,11 +5,11 @@ use lib.ListN.{length}
 use Rattle.records.specs.declared.refusal.Verdict.the-variants.{Pass, Refuse}
 use Rattle.startup.specs.Start.{Lent}
 use Rattle.state_bytes.specs.Layout.{recordsSize}
-use Rattle.calls.specs.Changes.{startLent}
+use Rattle.action_calls.specs.Changes.{startLent}
 use Rattle.calls.proofs.Laws.{told-invalid}
-use Rattle.calls.proofs.StartLaws.{wrong-size, start-told, refused-start, accepted-start}
-use Rattle.calls.proofs.starting.start.Statement.{statement}
-use Rattle.calls.proofs.starting.start.Tie as tie
+use Rattle.action_calls.proofs.StartLaws.{wrong-size, start-told, refused-start, accepted-start}
+use Rattle.action_calls.proofs.starting.start.Statement.{statement}
+use Rattle.action_calls.proofs.starting.start.Tie as tie
 
 -- what start-up is lent
 abbrev given : tie.Start → Lent

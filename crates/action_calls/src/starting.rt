@@ -1,7 +1,7 @@
 // Start-up.
 ghost use mathlib.Core.Path.{_≡_};
-ghost use Rattle.calls.specs.Changes.{memory, startLent, startTold, StartKept};
+ghost use Rattle.action_calls.specs.Changes.{memory, startLent, startTold, StartKept};
 ghost use Rattle.calls.specs.Told.{told};
 use records::refusal::Place;
 use records::refusal::Reason;
 use records::refusal::Refusal;
