@@ -11,7 +11,6 @@ ghost use Rattle.records.specs.Limits.{idMax};
 ghost use Prim.Native.Nat.{_≤_};
 use memory::config::Config;
 use queries::top_id;
-use ranges::names;
 use records::name;
 use records::payload::Payload;
 use records::refusal::Place;

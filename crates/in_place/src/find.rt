@@ -6,7 +6,6 @@ ghost use Rattle.state.specs.Find.{withName};
 ghost use Rattle.ranges.specs.Ranges.{inRange};
 ghost use Rattle.state_bytes.specs.Layout.{recordsSize};
 ghost use Rattle.state_bytes.specs.Stored.{stateIn};
-use ranges::names;
 use state_bytes::parts;
 use words::bytes::Found;
 

@@ -4,13 +4,13 @@ ghost use Prim.Native.Nat.{ℕ, _≤_, _<_};
 ghost use lib.ListN.{length};
 ghost use Rattle.memory.specs.Memory.{slotCount};
 ghost use Rattle.state.specs.Find.{withSlot};
-ghost use Rattle.ranges.specs.Outline.{Outlines};
+ghost use Rattle.outlines.specs.Outline.{Outlines};
 ghost use Rattle.ranges.specs.Ranges.{inRange};
 ghost use Rattle.state_bytes.specs.Layout.{recordsSize};
 ghost use Rattle.state_bytes.specs.Stored.{stateIn};
 use memory::config::Config;
-use ranges::outline;
-use ranges::outline::Outline;
+use outlines::outline;
+use outlines::outline::Outline;
 use state_bytes::parts;
 use words::bytes::Found;
 

@@ -3,7 +3,6 @@ ghost use mathlib.Core.Path.{_≡_};
 ghost use Rattle.records.specs.Verdict.{refusal};
 ghost use Rattle.state.specs.State.{resultWord};
 ghost use Rattle.queries.specs.Get.{refusedGet, got, getOf};
-use ranges::names;
 use records::name;
 use records::payload::Payload;
 use records::refusal::Place;

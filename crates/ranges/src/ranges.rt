@@ -9,7 +9,7 @@ ghost use Rattle.machine.specs.Host.{machineOf};
 ghost use Rattle.memory.specs.Memory.{slotCount};
 ghost use Rattle.state.specs.Find.{isTaken};
 ghost use Rattle.state.specs.State.{isStanding, stackOf};
-ghost use Rattle.ranges.specs.Outline.{Outlines};
+ghost use Rattle.outlines.specs.Outline.{Outlines};
 ghost use Rattle.ranges.specs.Ranges.{
   isEditLength,
   editInRange,
@@ -23,11 +23,11 @@ ghost use Rattle.ranges.specs.Ranges.{
   jobInRange,
   inRange,
 };
-use super::counts;
-use super::outline;
-use super::outline::Outline;
 use machine::processor::Processor;
 use memory::config::Config;
+use outlines::counts;
+use outlines::outline;
+use outlines::outline::Outline;
 use records::name;
 use records::payload::Edit;
 use records::payload::EditKind;

@@ -10,7 +10,7 @@ ghost use Rattle.state_bytes.specs.Stored.{stateIn, isState, HoldsState};
 ghost use Rattle.steps.specs.Next.{takenDown, finished, stackSet, ended, worked};
 use super::change;
 use in_place::range;
-use ranges::counts;
+use outlines::counts;
 use state::state::Job;
 use state::state::State;
 use state_bytes::parts;

@@ -10,7 +10,7 @@ use Rattle.words.proofs.Tests.{held, refuted}
 use Rattle.state.specs.Find.{withSlot, isTaken}
 use Rattle.state.specs.Steps.{stepCount}
 use Rattle.state.specs.declared.state.State.{State}
-use Rattle.ranges.specs.Outline.{Outlines}
+use Rattle.outlines.specs.Outline.{Outlines}
 use Rattle.ranges.specs.Ranges.{isJobAction, jobInRange}
 use Rattle.ranges.proofs.ranges.job_in_range.Statement.{statement}
 use Rattle.ranges.proofs.ranges.job_in_range.Tie as tie

@@ -10,8 +10,8 @@ use Rattle.words.proofs.Find.{every-turn, every-end}
 use Rattle.state.specs.Find.{isTaken}
 use Rattle.state.specs.State.{stackOf}
 use Rattle.state.specs.declared.state.State.{State}
-use Rattle.ranges.specs.Outline.{Outlines}
-use Rattle.ranges.specs.declared.outline.Outline.{Outline}
+use Rattle.outlines.specs.Outline.{Outlines}
+use Rattle.outlines.specs.declared.outline.Outline.{Outline}
 use Rattle.ranges.proofs.ranges.stack_in_range.Statement.{statement}
 use Rattle.ranges.proofs.ranges.stack_in_range.Tie as tie
 

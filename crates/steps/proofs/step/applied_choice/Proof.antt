@@ -10,8 +10,8 @@ use Rattle.state.specs.Find.{payloadIn}
 use Rattle.state.specs.State.{stackOf}
 use Rattle.state.specs.Steps.{stepFor, removalsIn, removing}
 use Rattle.state.specs.declared.state.State.{State}
-use Rattle.ranges.specs.Outline.{Outlines}
-use Rattle.ranges.specs.declared.outline.Outline.{Outline}
+use Rattle.outlines.specs.Outline.{Outlines}
+use Rattle.outlines.specs.declared.outline.Outline.{Outline}
 use Rattle.steps.specs.Next.{noStep, stepNow}
 use Rattle.steps.proofs.StepLaws.{stacked, stackedIn, none-stacked, length-stacked, newest-step, older-step, replacing-next}
 use Rattle.steps.proofs.step.applied_choice.Statement.{statement}

@@ -6,7 +6,7 @@ use lib.ListN.{length}
 use Rattle.words.proofs.Tests.{differs, equals}
 use Rattle.state.specs.Steps.{removing}
 use Rattle.state.specs.declared.state.State.{State}
-use Rattle.ranges.specs.Outline.{Outlines}
+use Rattle.outlines.specs.Outline.{Outlines}
 use Rattle.ranges.proofs.Laws.{standing-in-range}
 use Rattle.steps.proofs.StepLaws.{laying-next, reverting-next, replacing}
 use Rattle.steps.proofs.step.choose.Statement.{statement}
