@@ -38,6 +38,8 @@ use Rattle.functions.specs.Functions.{madeOf, editAt}
 use Rattle.acceptance.specs.Stages.{Setting, machineAt, readingFor, relocatedOf, recordsStart, recordCount, patchingOf, payloadRules, buildRules}
 use Rattle.prepare.specs.Prepare.{acceptedPrepared}
 use Rattle.memory.specs.Memory.{slotCount, slotAt, arenaSize, idAt, idsSize}
+use Rattle.upload_room.specs.Room as slots
+use Rattle.upload_record.specs.Record as entry
 use Rattle.upload.specs.Upload as upload
 use Rattle.model.specs.Memory.{arenaOf, idsOf, padded}
 use Rattle.model.specs.Model.{Loaded, Model}
@@ -103,7 +105,7 @@ module _ (t : Setting) (file : List ℕ) (passes : payloadRules t file ≡ Pass)
 
 -- ---- the payload that is put last
 
-slot-in : (f : Found) → upload.slotIn f ≡ model.slotIn f
+slot-in : (f : Found) → slots.slotIn f ≡ model.slotIn f
 slot-in (At slot) = refl
 slot-in Nothing = refl
 
@@ -120,7 +122,7 @@ module _ (l : Model) (name list file : List ℕ) where
   -- the record that is kept of it
   record-new :
       payloadRules now file ≡ Pass →
-      recordOf new ≡ upload.recordFor name (model.slotIn (model.freeSlot l)) (acceptedPrepared now file)
+      recordOf new ≡ entry.recordFor name (model.slotIn (model.freeSlot l)) (acceptedPrepared now file)
   unfolding recordOf model.loadedFrom
   record-new passes =
       rw (
@@ -150,8 +152,8 @@ module _ {u : Loader} {l : Model} (k : Stands u l) (sound : Sound l) (name list 
 
   -- the rules
 
-  sizes : upload.uploadSizesOk (u .state) (length (u .arena)) (length (u .ids)) ≡ true
-  unfolding upload.uploadSizesOk
+  sizes : slots.uploadSizesOk (u .state) (length (u .arena)) (length (u .ids)) ≡ true
+  unfolding slots.uploadSizesOk
   sizes =
       rw (
         in-range k sound,
@@ -159,14 +161,14 @@ module _ {u : Loader} {l : Model} (k : Stands u l) (sound : Sound l) (name list 
         eq-eqb (length (u .ids)) idsSize (ap length (k .ids) ∙ length-ids sound),
       )
 
-  same-slot : upload.slotFor (u .state) ≡ model.slotIn (model.freeSlot l)
+  same-slot : slots.slotFor (u .state) ≡ model.slotIn (model.freeSlot l)
   same-slot = rw (free-slot (k .state) sound) (slot-in (model.freeSlot l))
 
   same-setting : upload.settingFor (u .state) list ≡ now l name list file
   same-setting = rw (same-slot, k .state .config)
 
   same-rules : upload.uploadRules (u .state) lent asked ≡ model.uploadRules l name list file
-  unfolding upload.uploadRules upload.requestRules upload.roomRules model.uploadRules
+  unfolding upload.uploadRules slots.requestRules slots.roomRules model.uploadRules
   same-rules = rw (sizes, with-name (k .state) name, free-slot (k .state) sound, slot-in (model.freeSlot l), k .state .config) (simp then-assoc)
 
   -- what an accepted upload leaves
@@ -188,7 +190,7 @@ module _ {u : Loader} {l : Model} (k : Stands u l) (sound : Sound l) (name list 
         (sym (map-append recordOf (l .payloads) (p ∷ [])))
 
     state-after :
-        (p : Loaded) → StateStands (upload.withUploaded (u .state) (recordOf p)) (model.withList (l .payloads ++ (p ∷ [])) l)
+        (p : Loaded) → StateStands (entry.withUploaded (u .state) (recordOf p)) (model.withList (l .payloads ++ (p ∷ [])) l)
     state-after p =
         record {
           config = k .state .config;
@@ -237,7 +239,7 @@ module _ {u : Loader} {l : Model} (k : Stands u l) (sound : Sound l) (name list 
     done slot t =
         record {
           answer = Pass;
-          state = upload.withUploaded (u .state) (upload.recordFor name slot (acceptedPrepared t file));
+          state = entry.withUploaded (u .state) (entry.recordFor name slot (acceptedPrepared t file));
           after =
               upload.lent (splice (u .arena) (slotAt slot) (relocatedOf t file .image)) (splice (u .ids) (idAt slot) (readingFor file .id .bytes));
         }

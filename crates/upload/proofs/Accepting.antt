@@ -21,22 +21,8 @@ use Rattle.acceptance.specs.Stages.{Setting, payloadRules}
 use Rattle.acceptance.proofs.Exactness.{exact}
 use Rattle.acceptance.proofs.Refusals.{pass-refuses, same-refusal, then-refuses}
 use Rattle.acceptance.proofs.SameAnswers.{SameAnswer, alike-same, differ-alike}
-use Rattle.upload.specs.Upload.{
-  Lent,
-  Request,
-  request,
-  settingFor,
-  roomRules,
-  requestRules,
-  uploadRules,
-  Uploaded,
-  acceptedUpload,
-  refusedUpload,
-  uploadOf,
-  Acceptable,
-  BrokenUpload,
-  Uploads,
-}
+use Rattle.upload_room.specs.Room.{roomRules, requestRules}
+use Rattle.upload.specs.Upload.{Lent, Request, request, settingFor, uploadRules, Uploaded, acceptedUpload, refusedUpload, uploadOf, Acceptable, BrokenUpload, Uploads}
 use Rattle.upload.proofs.StageLaws.{has-room}
 
 module _ (s : State) (l : Lent) (q : Request) where

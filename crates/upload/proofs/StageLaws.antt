@@ -4,8 +4,8 @@ use mathlib.Core.Path.{_≡_, refl, ap, subst⁻¹, _∙_}
 use mathlib.Core.Bool.{true, false, not}
 use mathlib.Core.List.{List}
 use native.Mathlib.Omega.{arith}
-use borrow.Author.Tests.{leb-true, eqb-true, not-true}
-use lib.Dec.{leb, eqb}
+use borrow.Author.Tests.{leb-true, not-true}
+use lib.Dec.{leb}
 use lib.ListN.{length}
 use Rattle.words.specs.Name.{isFound}
 use Rattle.words.specs.Splice.{splice}
@@ -31,43 +31,16 @@ use Rattle.state.specs.State.{called}
 use Rattle.state.specs.declared.state.State.{State}
 use Rattle.state.proofs.Laws.{free-slot}
 use Rattle.state.proofs.Whole.{Whole}
-use Rattle.ranges.specs.Ranges.{inRange}
 use Rattle.ranges.proofs.Laws.{in-range}
 use Rattle.acceptance.specs.Stages.{Setting, setting, machineAt, recordCount, payloadRules}
 use Rattle.prepare.specs.Prepare.{Outcome, outcome}
 use Rattle.prepare.specs.declared.prepare.Prepared.{Prepared}
-use Rattle.upload.specs.Upload.{
-  Lent,
-  lent,
-  Request,
-  uploadSizesOk,
-  slotIn,
-  slotFor,
-  settingFor,
-  roomRules,
-  requestRules,
-  refusedRoom,
-  roomBy,
-  uploadRules,
-  preparedIn,
-  recordFor,
-  withUploaded,
-  uploaded,
-  acceptedUpload,
-  refusedUpload,
-  uploadOf,
-}
-use Rattle.upload.specs.declared.room.Room.{Room}
+use Rattle.upload_room.specs.Room.{uploadSizesOk, slotIn, slotFor, roomRules, requestRules, refusedRoom, roomBy}
+use Rattle.upload_room.specs.declared.room.Room.{Room}
+use Rattle.upload_room.proofs.Laws.{sizes-told}
+use Rattle.upload_record.specs.Record.{recordFor, withUploaded}
+use Rattle.upload.specs.Upload.{Lent, lent, Request, settingFor, uploadRules, preparedIn, uploaded, acceptedUpload, refusedUpload, uploadOf}
 use Rattle.upload.proofs.SlotLaws.{outcomeIn, payload-told, outcome-is}
-
--- ---- the sizes
-
-pub sizes-told :
-    (s : State) (arena ids : ℕ) → uploadSizesOk s arena ids ≡ true → (inRange s ≡ true) × (arena ≡ arenaSize) × (ids ≡ idsSize)
-unfolding uploadSizesOk
-sizes-told s arena ids h =
-    let parts = three (inRange s) (eqb arena arenaSize) (eqb ids idsSize) h in
-    (parts .0, eqb-true _ _ (parts .1), eqb-true _ _ (parts .2))
 
 -- ---- up to the slot
 

@@ -1,20 +1,15 @@
 -- Document 01's upload: a payload read, relocated in the lowest free slot and put last in the list.
-use Prim.Native.Nat.{ℕ, _+_, _%_, _^_}
+use Prim.Native.Nat.{ℕ}
 use mathlib.Core.Path.{_≡_}
-use mathlib.Core.Bool.{Bool, true, false, not, _&&_}
+use mathlib.Core.Bool.{true, false}
 use mathlib.Core.Logic.{_↔_}
 use mathlib.Core.List.{List}
-use lib.Dec.{eqb}
-use lib.ListN.{length, set}
+use lib.ListN.{length}
 use Rattle.words.specs.Name.{isFound}
 use Rattle.words.specs.Splice.{splice}
-use Rattle.words.specs.declared.bytes.Found.{Found}
-use Rattle.words.specs.declared.bytes.Found.the-variants.{At, Nothing}
 use Rattle.records.specs.Name.{isName}
-use Rattle.records.specs.Payload.{keptName}
 use Rattle.records.specs.Refusal.{numberOf}
-use Rattle.records.specs.Verdict.{must, _then_, decide}
-use Rattle.records.specs.declared.payload.Payload.{Payload}
+use Rattle.records.specs.Verdict.{_then_, decide}
 use Rattle.records.specs.declared.refusal.Place.{Place}
 use Rattle.records.specs.declared.refusal.Place.the-variants.{Nowhere}
 use Rattle.records.specs.declared.refusal.Refusal.{Refusal}
@@ -22,19 +17,18 @@ use Rattle.records.specs.declared.refusal.Verdict.{Verdict}
 use Rattle.records.specs.declared.refusal.Verdict.the-variants.{Pass, Refuse}
 use Rattle.symbols.specs.SymbolList.{valid}
 use Rattle.memory.specs.Config.{hostFor}
-use Rattle.memory.specs.Memory.{slotAt, arenaSize, idAt, idsSize}
+use Rattle.memory.specs.Memory.{slotAt, idAt}
 use Rattle.state.specs.Find.{withName, freeSlot}
-use Rattle.state.specs.State.{checked, withPayloads, withCount, withVersion}
 use Rattle.state.specs.declared.state.Called.{Called}
 use Rattle.state.specs.declared.state.State.{State}
-use Rattle.ranges.specs.Ranges.{inRange}
 use Rattle.acceptance.specs.Broken.{Broken}
 use Rattle.acceptance.specs.Consulted.{DifferInIgnored}
 use Rattle.acceptance.specs.Keeps.{Keeps}
 use Rattle.acceptance.specs.Stages.{Setting, setting, relocatedOf, payloadRules}
 use Rattle.prepare.specs.Prepare.{Outcome, outcome, refusedPrepared, acceptedPrepared}
 use Rattle.prepare.specs.declared.prepare.Prepared.{Prepared}
-use Rattle.upload.specs.declared.room.Room.{Room}
+use Rattle.upload_room.specs.Room.{uploadSizesOk, slotFor, requestRules}
+use Rattle.upload_record.specs.Record.{recordFor, withUploaded}
 
 -- what an upload is lent besides the state: arena and id store, which it may write
 pub record Lent : Type 0 where
@@ -55,33 +49,9 @@ request name list file = record { name = name; list = list; file = file }
 
 -- ---- the rules, in their order: "lent sizes, name, symbol list, 17, slot, 8, .."
 
--- the numbers of the state and the lent sizes are right
-unfoldable pub uploadSizesOk : State → ℕ → ℕ → Bool
-uploadSizesOk s arena ids = inRange s && eqb arena arenaSize && eqb ids idsSize
-
--- "an upload takes the lowest free one"
-abbrev pub slotIn : Found → ℕ
-slotIn (At slot) = slot
-slotIn Nothing = 0
-
-abbrev pub slotFor : State → ℕ
-slotFor s = slotIn (freeSlot s)
-
 -- what the payload is prepared for
 abbrev pub settingFor : State → List ℕ → Setting
 settingFor s list = setting (hostFor (s .config) (slotFor s)) list
-
--- name to slot
-unfoldable pub roomRules : State → List ℕ → List ℕ → Verdict
-roomRules s name list =
-    must (isName name) 22 Nowhere
-    then must (valid list) 22 Nowhere
-    then must (not (isFound (withName s name))) 17 Nowhere
-    then must (isFound (freeSlot s)) 12 Nowhere
-
--- sizes to slot; `arena` and `ids` are lengths
-unfoldable pub requestRules : State → ℕ → ℕ → List ℕ → List ℕ → Verdict
-requestRules s arena ids name list = must (uploadSizesOk s arena ids) 22 Nowhere then roomRules s name list
 
 unfoldable pub uploadRules : State → Lent → Request → Verdict
 uploadRules s l q =
@@ -89,39 +59,12 @@ uploadRules s l q =
 
 -- ---- what an accepted upload does
 
-abbrev pub refusedRoom : Refusal → Room
-refusedRoom r = record { verdict = Refuse r; slot = 0 }
-
--- the payload's slot, where the rules up to it pass
-abbrev pub roomBy : State → Verdict → Room
-roomBy s = decide refusedRoom (record { verdict = Pass; slot = slotFor s })
-
 -- the payload prepared in its slot of the arena; a refusal leaves the arena as it was
 unfoldable pub preparedIn : Setting → List ℕ → ℕ → List ℕ → Outcome
 preparedIn t arena slot file =
     decide (λ r. outcome (refusedPrepared r) arena)
     (outcome (acceptedPrepared t file) (splice arena (slotAt slot) (relocatedOf t file .image)))
     (payloadRules t file)
-
--- the payload's record: "Status: 1 checked", "The last result starts at 0"
-abbrev pub recordFor : List ℕ → ℕ → Prepared → Payload
-recordFor name slot p =
-    record {
-      name = keptName name;
-      «name_length» = length name;
-      slot = slot;
-      status = checked;
-      result = 0;
-      «id_length» = p .id .length;
-      dependency = p .dependency;
-      edits = p .edits;
-      «edit_count» = p .«edit_count»;
-    }
-
--- it is put last in the list; "Version .. grows by 1 modulo 2^32 at each accepted upload or unload"
-abbrev pub withUploaded : State → Payload → State
-withUploaded s p =
-    withVersion ((s .version + 1) % 2 ^ 32) (withCount (s .count + 1) (withPayloads (set (s .payloads) (s .count) p) s))
 
 -- ---- the call: the answer, the state, and what arena and id store then hold
 

@@ -8,14 +8,14 @@ ghost use Rattle.memory.specs.Memory.{slotCount, arenaSize};
 ghost use Rattle.acceptance.specs.Stages.{setting};
 ghost use Rattle.prepare.specs.Prepare.{outcome};
 ghost use Rattle.upload.specs.Upload.{lent, request, preparedIn, uploaded, Uploads};
-use super::enter;
-use super::room;
 use memory::config::Config;
 use prepare::prepare::Prepared;
 use records::payload::Payload;
 use records::refusal::Verdict;
 use state::state::Called;
 use state::state::State;
+use upload_record::enter;
+use upload_room::room;
 
 // The payload prepared in slot `slot` of the arena; a refusal leaves the arena as it was.
 pub fn prepare_in(

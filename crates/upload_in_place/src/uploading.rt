@@ -8,7 +8,8 @@ ghost use Rattle.records.specs.Limits.{nameMax, recordsMax};
 ghost use Rattle.memory.specs.Memory.{slotCount, idAt, idsSize};
 ghost use Rattle.state_bytes.specs.Layout.{recordsSize};
 ghost use Rattle.state_bytes.specs.Stored.{stateIn, isState, HoldsState};
-ghost use Rattle.upload.specs.Upload.{requestRules, roomBy, recordFor, withUploaded};
+ghost use Rattle.upload_room.specs.Room.{requestRules, roomBy};
+ghost use Rattle.upload_record.specs.Record.{recordFor, withUploaded};
 use in_place::find;
 use in_place::range;
 use outlines::outline;
@@ -17,9 +18,9 @@ use records::payload::Payload;
 use records::refusal::Reason;
 use state_bytes::parts;
 use state_writes::single;
-use upload::enter;
-use upload::room;
-use upload::room::Room;
+use upload_record::enter;
+use upload_room::room;
+use upload_room::room::Room;
 
 // The slot that the payload takes, or why it gets none, by the lengths of arena and id store.
 pub fn room_for(b: &[u8], arena: usize, ids: usize, name: &[u8], list: &[u8]) -> Room

@@ -9,7 +9,8 @@ use Rattle.words.proofs.Tests.{held, refuted}
 use Rattle.records.specs.declared.refusal.Verdict.the-variants.{Pass}
 use Rattle.state.specs.State.{called}
 use Rattle.state.proofs.Whole.{Whole}
-use Rattle.upload.specs.Upload.{Lent, lent, Request, request, requestRules, roomBy, uploaded}
+use Rattle.upload_room.specs.Room.{requestRules, roomBy}
+use Rattle.upload.specs.Upload.{Lent, lent, Request, request, uploaded}
 use Rattle.upload.proofs.StageLaws.{refused-request, ready, refused-payload, enterable, accepted}
 use Rattle.state_bytes.specs.Stored.{stateIn, isState}
 use Rattle.upload_call.specs.Changes.{uploadTold}

@@ -8,7 +8,7 @@ use Rattle.state.specs.State.{withPayloads, withCount, withVersion}
 use Rattle.state.specs.declared.state.State.{State}
 use Rattle.state_bytes.specs.Stored.{stateIn}
 use Rattle.state_bytes.proofs.Laws.{state-length}
-use Rattle.upload.specs.Upload.{withUploaded}
+use Rattle.upload_record.specs.Record.{withUploaded}
 use Rattle.in_place.proofs.Laws.{holds-as}
 use Rattle.upload_in_place.proofs.uploading.append.Statement.{statement}
 use Rattle.upload_in_place.proofs.uploading.append.Tie as tie

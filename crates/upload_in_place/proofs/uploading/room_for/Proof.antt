@@ -5,8 +5,8 @@ use borrow.Author.Needs.{needs}
 use Rattle.words.proofs.Tests.{held, refuted}
 use Rattle.ranges.specs.Ranges.{inRange}
 use Rattle.state_bytes.specs.Stored.{stateIn}
-use Rattle.upload.specs.Upload.{uploadSizesOk, requestRules}
-use Rattle.upload.proofs.StageLaws.{sizes-told}
+use Rattle.upload_room.specs.Room.{uploadSizesOk, requestRules}
+use Rattle.upload_room.proofs.Laws.{sizes-told}
 use Rattle.in_place.proofs.Laws.{ranges-of}
 use Rattle.upload_in_place.proofs.uploading.room_for.Statement.{statement}
 use Rattle.upload_in_place.proofs.uploading.room_for.Tie as tie

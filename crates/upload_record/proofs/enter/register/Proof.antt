@@ -1,7 +1,7 @@
 -- `enter::register` meets its contract: the id is written, and the record is made.
 use borrow.Author.Needs.{needs}
-use Rattle.upload.proofs.enter.register.Statement.{statement}
-use Rattle.upload.proofs.enter.register.Tie as tie
+use Rattle.upload_record.proofs.enter.register.Statement.{statement}
+use Rattle.upload_record.proofs.enter.register.Tie as tie
 
 returns : tie.Need-returns
 returns c = (c .record-for .ensures, c .before .before .before .write-id .ensures)

@@ -1,7 +1,7 @@
 -- `enter::write_id` meets its contract: the entry begins at `idMax` times the slot.
 use borrow.Author.Needs.{needs}
-use Rattle.upload.proofs.enter.write_id.Statement.{statement}
-use Rattle.upload.proofs.enter.write_id.Tie as tie
+use Rattle.upload_record.proofs.enter.write_id.Statement.{statement}
+use Rattle.upload_record.proofs.enter.write_id.Tie as tie
 
 returns : tie.Need-returns
 returns c = c .before .before .copy .ensures

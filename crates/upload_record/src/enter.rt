@@ -5,7 +5,7 @@ ghost use lib.ListN.{length};
 ghost use Rattle.words.specs.Splice.{splice};
 ghost use Rattle.records.specs.Limits.{nameMax, idMax, recordsMax};
 ghost use Rattle.memory.specs.Memory.{slotCount, idAt, idsSize};
-ghost use Rattle.upload.specs.Upload.{recordFor, withUploaded};
+ghost use Rattle.upload_record.specs.Record.{recordFor, withUploaded};
 use prepare::prepare::Prepared;
 use records::payload::Payload;
 use state::state::State;

@@ -2,9 +2,9 @@
 use mathlib.Core.Bool.{and-false}
 use borrow.Author.Tests.{eq-eqb, ne-eqb}
 use Rattle.words.proofs.Tests.{held, refuted}
-use Rattle.upload.specs.Upload.{uploadSizesOk}
-use Rattle.upload.proofs.room.sizes_ok.Statement.{statement}
-use Rattle.upload.proofs.room.sizes_ok.Tie as tie
+use Rattle.upload_room.specs.Room.{uploadSizesOk}
+use Rattle.upload_room.proofs.room.sizes_ok.Statement.{statement}
+use Rattle.upload_room.proofs.room.sizes_ok.Tie as tie
 
 returns : tie.Need-returns
 unfolding uploadSizesOk

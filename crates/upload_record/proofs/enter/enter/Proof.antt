@@ -1,8 +1,8 @@
 -- `enter::enter` meets its contract: the record is put last.
 use mathlib.Core.Path.{_∙_}
 use borrow.Author.Needs.{needs}
-use Rattle.upload.proofs.enter.enter.Statement.{statement}
-use Rattle.upload.proofs.enter.enter.Tie as tie
+use Rattle.upload_record.proofs.enter.enter.Statement.{statement}
+use Rattle.upload_record.proofs.enter.enter.Tie as tie
 
 returns : tie.Need-returns
 returns c =

@@ -3,7 +3,7 @@ ghost use mathlib.Core.Path.{_≡_};
 ghost use Rattle.records.specs.Verdict.{refusal};
 ghost use Rattle.state.specs.Find.{withName, freeSlot};
 ghost use Rattle.ranges.specs.Ranges.{inRange};
-ghost use Rattle.upload.specs.Upload.{uploadSizesOk, roomRules, requestRules, refusedRoom, roomBy};
+ghost use Rattle.upload_room.specs.Room.{uploadSizesOk, roomRules, requestRules, refusedRoom, roomBy};
 use memory::config::Config;
 use outlines::outline;
 use records::name;

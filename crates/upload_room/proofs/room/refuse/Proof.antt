@@ -1,7 +1,7 @@
 -- `room::refuse` meets its contract: the refusal, and no slot.
 use borrow.Author.Needs.{needs}
-use Rattle.upload.proofs.room.refuse.Statement.{statement}
-use Rattle.upload.proofs.room.refuse.Tie as tie
+use Rattle.upload_room.proofs.room.refuse.Statement.{statement}
+use Rattle.upload_room.proofs.room.refuse.Tie as tie
 
 returns : tie.Need-returns
 returns c = rw (c .refused .ensures)

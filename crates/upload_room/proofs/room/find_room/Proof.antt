@@ -4,10 +4,10 @@ use mathlib.Core.Bool.{true}
 use Rattle.words.proofs.Tests.{held, refuted}
 use Rattle.records.specs.Name.{isName}
 use Rattle.symbols.specs.SymbolList.{valid}
-use Rattle.upload.specs.Upload.{roomRules}
+use Rattle.upload_room.specs.Room.{roomRules}
 use borrow.Author.Needs.{needs}
-use Rattle.upload.proofs.room.find_room.Statement.{statement}
-use Rattle.upload.proofs.room.find_room.Tie as tie
+use Rattle.upload_room.proofs.room.find_room.Statement.{statement}
+use Rattle.upload_room.proofs.room.find_room.Tie as tie
 
 returns : tie.Need-returns
 unfolding roomRules

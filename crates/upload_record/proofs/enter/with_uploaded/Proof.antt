@@ -1,7 +1,7 @@
 -- `enter::with_uploaded` meets its contract.
 use borrow.Author.Needs.{needs}
-use Rattle.upload.proofs.enter.with_uploaded.Statement.{statement}
-use Rattle.upload.proofs.enter.with_uploaded.Tie as tie
+use Rattle.upload_record.proofs.enter.with_uploaded.Statement.{statement}
+use Rattle.upload_record.proofs.enter.with_uploaded.Tie as tie
 
 returns : tie.Need-returns
 returns c = rw (c .wrapping-add-u32 .ensures)

@@ -7,10 +7,10 @@ use Rattle.words.proofs.Tests.{held, refuted}
 use Rattle.state.proofs.Whole.{whole}
 use Rattle.ranges.specs.Ranges.{inRange}
 use Rattle.ranges.proofs.Laws.{InRange, in-range}
-use Rattle.upload.specs.Upload.{uploadSizesOk, requestRules}
-use Rattle.upload.proofs.StageLaws.{sizes-told}
-use Rattle.upload.proofs.room.room_for.Statement.{statement}
-use Rattle.upload.proofs.room.room_for.Tie as tie
+use Rattle.upload_room.specs.Room.{uploadSizesOk, requestRules}
+use Rattle.upload_room.proofs.Laws.{sizes-told}
+use Rattle.upload_room.proofs.room.room_for.Statement.{statement}
+use Rattle.upload_room.proofs.room.room_for.Tie as tie
 
 returns : tie.Need-returns
 unfolding requestRules

@@ -1,8 +1,8 @@
 -- `enter::record_for` meets its contract: the record with the name, and what was prepared.
 use Rattle.records.specs.Payload.{named}
 use borrow.Author.Needs.{needs}
-use Rattle.upload.proofs.enter.record_for.Statement.{statement}
-use Rattle.upload.proofs.enter.record_for.Tie as tie
+use Rattle.upload_record.proofs.enter.record_for.Statement.{statement}
+use Rattle.upload_record.proofs.enter.record_for.Tie as tie
 
 returns : tie.Need-returns
 unfolding named

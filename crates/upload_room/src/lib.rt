@@ -1,0 +1,2 @@
+// The slot that an upload takes: the rules up to it.
+pub mod room;
