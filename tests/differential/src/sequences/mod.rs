@@ -13,7 +13,7 @@ pub mod marks;
 pub mod memory;
 mod nonsense;
 mod plain;
-mod pool;
+pub mod pool;
 pub mod scripts;
 pub mod session;
 pub mod world;

@@ -1,0 +1,5 @@
+pub mod Answering
+pub mod Fresh
+pub mod Front
+pub mod Lists
+pub mod Readable

@@ -1,0 +1,4 @@
+pub mod Command
+pub mod Decimal
+pub mod Fields
+pub mod Hex
