@@ -8,7 +8,6 @@ use types.Run.{OneOf, miss}
 use denote.Enum.Declared.{tagOf}
 use lib.Dec.{leb}
 use lib.ListN.{length, take}
-use Rattle.words.proofs.Splice.{splice-none}
 use Rattle.state.specs.declared.state.Called.{Called}
 use Rattle.state.specs.declared.state.State.{State}
 use Rattle.upload.specs.Upload as upload
@@ -32,6 +31,7 @@ use Rattle.script.proofs.command.Command.{the-type}
 use Rattle.script.specs.declared.command.Request.{Request}
 use Rattle.answers.specs.Answers.{verdictLine, badLine}
 use Rattle.answers.specs.Written.{written, writing}
+use Rattle.answers.proofs.Written.{none}
 use Rattle.interpreter.specs.Lines.{
   Answer,
   answer,
@@ -61,10 +61,6 @@ use Rattle.interpreter.specs.declared.console.Mode as declared
 use Rattle.interpreter.specs.declared.console.Stepped.{Stepped}
 use Rattle.interpreter.specs.declared.console.Mode.the-variants.{Off, Ready, Payload, Dropped}
 use Rattle.interpreter.proofs.Fresh.{line-out}
-
--- nothing is written
-none-written : (out : List ℕ) → written out 0 ≡ writing out 0 []
-none-written out = rw (splice-none out 0)
 
 -- ---- a command
 
@@ -157,7 +153,7 @@ open-gives c s m line name list file out r e kept-name kept-list within room =
       session =
           ap (λ t. standing (t .console) (t .state) m (gathered name list file)) e
           ∙ rw (kept-name .same, kept-list .same);
-      out = ap (λ t. written out (t .written)) e ∙ none-written out;
+      out = ap (λ t. written out (t .written)) e ∙ none out 0;
       within =
           subst (λ t. Within (t .console)) (sym e)
           (record {
@@ -194,7 +190,7 @@ module _ (c : Console) (s : State) (line : List ℕ) (r : Stepped) (from to : Li
   gather-gives file′ mode end hex e few kept =
       record {
         session = rw (end, hex) (ap (λ t. standing (t .console) (t .state) m (gathered (g .name) (g .list) file′)) e ∙ rw (mode, kept));
-        out = rw (end, hex) (ap (λ t. written from (t .written)) e ∙ none-written from);
+        out = rw (end, hex) (ap (λ t. written from (t .written)) e ∙ none from 0);
         within =
             subst (λ t. Within (t .console)) (sym e)
             (record { text = within .text; id = within .id; name = within .name; list = within .list; file = few });
@@ -221,14 +217,14 @@ module _ (c : Console) (s : State) (line : List ℕ) (r : Stepped) (from to : Li
   closed-gives end =
       record {
         session = rw end;
-        out = none-written from;
+        out = none from 0;
         within = record { text = within .text; id = within .id; name = within .name; list = within .list; file = within .file };
       }
 
   pub passed-gives :
       c .mode ≡ Dropped → isEnd line ≡ false → Gives (droppedLine (c .lines) (unitIn c s m) line) (stepped c s 0) m g from from
   unfolding droppedLine
-  passed-gives mode end = record { session = rw (end, mode); out = none-written from; within = within }
+  passed-gives mode end = record { session = rw (end, mode); out = none from 0; within = within }
 
 -- ---- any line, which is counted first
 

@@ -17,6 +17,7 @@ use Rattle.memory.specs.Memory.{arenaSize, undoSize, idsSize}
 use Rattle.state.specs.State.{stateWith, noState}
 use Rattle.state.specs.declared.state.Called.{Called}
 use Rattle.state.specs.declared.state.State.{State}
+use Rattle.acceptance.proofs.Refusals.{pass-refuses}
 use Rattle.startup.specs.Start.{Lent, Started, started, configFor, storesOk, startRules, startOf}
 use Rattle.script.specs.Command.{sizeMost}
 use Rattle.script.specs.declared.command.Host.{Host}
@@ -28,16 +29,6 @@ use Rattle.interpreter.specs.Parts.{stores, stepped, SetsUp, begun, Star
 use Rattle.interpreter.specs.Standing.{Memory, memory, Lends, Within, unitIn, modeIn}
 use Rattle.interpreter.specs.declared.console.Console.{Console}
 use Rattle.interpreter.specs.declared.console.Stepped.{Stepped}
-
--- how a verdict says no
-abbrev refusals : Verdict → ℕ
-refusals Pass = 0
-refusals (Refuse q) = 1
-
-pub pass-not-refuse : {A : Type 0} (q : Refusal) → Pass ≡ Refuse q → A
-pass-not-refuse q e =
-    let wrong : refusals Pass ≡ refusals (Refuse q) = ap refusals e in
-    absurd (omega arith)
 
 -- what start-up is lent, with the first bytes of a text
 abbrev pub lentBy : Host → List ℕ → List ℕ → List ℕ → List ℕ → List ℕ → Lent
@@ -96,7 +87,7 @@ module _ (h : Host) (text arena undo ids id : List ℕ) (room : h .size ≤ leng
         let new = start-accepted (fresh h id) v in
         record {
           answer = ap (λ x. x .answer) old ∙ sym (ap (λ x. x .answer) new);
-          refused = λ q e′. pass-not-refuse q (sym (ap (λ x. x .answer) old) ∙ e′);
+          refused = λ q e′. absurd (pass-refuses (sym (ap (λ x. x .answer) old) ∙ e′));
           accepted =
               λ e′. (
                 ap (λ x. x .state) old ∙ ap stateWith same-config ∙ sym (ap (λ x. x .state) new),
@@ -111,7 +102,7 @@ module _ (h : Host) (text arena undo ids id : List ℕ) (room : h .size ≤ leng
         record {
           answer = ap (λ x. x .answer) old ∙ sym (ap (λ x. x .answer) new);
           refused = λ q′ e′. (ap (λ x. x .arena) old, ap (λ x. x .undo) old, ap (λ x. x .ids) old);
-          accepted = λ e′. pass-not-refuse q (sym e′ ∙ ap (λ x. x .answer) old);
+          accepted = λ e′. absurd (pass-refuses (sym e′ ∙ ap (λ x. x .answer) old));
         }
 
     pub sets-up : SetsUp h id r arena undo ids arena′ undo′ ids′

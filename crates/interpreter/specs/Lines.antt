@@ -8,7 +8,6 @@ use Rattle.words.specs.Order.{equal}
 use Rattle.words.specs.Text.{ascii}
 use Rattle.records.specs.Limits.{fileMax, nameMax}
 use Rattle.records.specs.Verdict.{decide}
-use Rattle.records.specs.declared.refusal.Verdict.{Verdict}
 use Rattle.memory.specs.Memory.{slotCount, arenaSize, undoSize, idsSize}
 use Rattle.startup.specs.Start as start
 use Rattle.upload.specs.Upload as upload

@@ -5,7 +5,6 @@ ghost use lib.ListN.{length};
 ghost use Rattle.actions.specs.Actions.{acted, lent, request, actionOf};
 ghost use Rattle.queries.specs.Get.{getOf};
 ghost use Rattle.answers.specs.Answers.{badLine, verdictLine, gotLine, listLines};
-ghost use Rattle.answers.specs.Written.{written, writing};
 ghost use Rattle.interpreter.specs.Lines.{nameIn, listed};
 ghost use Rattle.interpreter.specs.Parts.{Says};
 ghost use Rattle.interpreter.specs.Standing.{outRoom};
