@@ -5,5 +5,6 @@ fn main() {
     if let Ok(folder) = std::env::var("URDDOLWY_LIB") {
         println!("cargo:rustc-link-search=native={folder}");
         println!("cargo:rerun-if-changed={folder}/liburddolwy.a");
+        println!("cargo:rerun-if-changed={folder}/liblookups.a");
     }
 }

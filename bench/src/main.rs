@@ -1,5 +1,5 @@
-//! Times the proved library and the second loader: preparing, the calls, jobs from their complete hold on, uploads that
-//! grow.
+//! Times the proved library and the second loader: preparing, lookups, the calls, jobs from their complete hold on, uploads
+//! that grow.
 
 mod calls;
 mod case;
@@ -8,6 +8,7 @@ mod hold;
 mod largest;
 #[path = "../../tests/differential/src/abi.rs"]
 mod library;
+mod lookups;
 mod pieces;
 mod plan;
 mod prepare;
@@ -45,6 +46,7 @@ fn words() -> Result<Wanted, String> {
 
 fn check() -> Result<(), String> {
     println!("{} payloads: both loaders prepare each alike", prepare::check()?);
+    println!("{} lookups: the library and plain code find the same", lookups::check()?);
     println!("{} cases of calls: both loaders accept all, with the same answers and memory", calls::check()?);
     println!("{} cases from a complete hold: the same, and the bare writing leaves the same text", hold::check()?);
     println!("{} uploads that grow: the same", growth::check()?);
@@ -62,6 +64,8 @@ fn run() -> Result<(), String> {
     println!("reading the clock is in every time: median {median:.2} us, least {least:.2} us");
     println!();
     prepare::show(rounds, parts)?;
+    println!();
+    lookups::show(rounds)?;
     println!();
     calls::show(rounds)?;
     println!();

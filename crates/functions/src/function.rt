@@ -54,7 +54,9 @@ fn named_address(placed: &[u8], list: &[u8], start: u64) -> OldAddress
     if symbols::NAME_MAX < end - first {
         return OldAddress::Refused(Reason::Invalid);
     }
-    match symbols::find(list, &placed[first..end]) {
+    let search = symbols::find(list, &placed[first..end]);
+    let found = search.found;
+    match found {
         symbols::Found::Address(a) => OldAddress::At(a),
         symbols::Found::Nothing => OldAddress::Refused(Reason::NotListed),
     }

@@ -19,7 +19,9 @@ pub(crate) fn named_value(strings: &[u8], list: &[u8], name: u64) -> SymbolValue
     let bytes::Found::At(end) = elf::name_end(strings, name) else {
         return SymbolValue::Refused(Reason::Invalid);
     };
-    match symbols::find(list, &strings[start..end]) {
+    let search = symbols::find(list, &strings[start..end]);
+    let found = search.found;
+    match found {
         symbols::Found::Address(a) => SymbolValue::Value(a),
         symbols::Found::Nothing => SymbolValue::Refused(Reason::NotListed),
     }

@@ -13,6 +13,7 @@ use Rattle.symbols.specs.declared.Entry.{Entry}
 use Rattle.symbols.specs.declared.Entry.the-variants.{Whole, Broken}
 use Rattle.symbols.specs.declared.Found.{Found}
 use Rattle.symbols.specs.declared.Found.the-variants.{Address, Nothing}
+use Rattle.symbols.specs.declared.Search.{Search}
 
 -- "then per entry an 8-byte address, a 1-byte name length (1 to 127), the name": the entry of the list s that begins at position at
 abbrev pub addressAt : List ℕ → ℕ → ℕ
@@ -62,19 +63,53 @@ valid s =
     && eqb (getD s 4 0) 1
     && entriesFrom s (listCount s) 7 []
 
--- the address of the first of n whole entries from at on that has this name
+-- the entry's address, where the test holds
+abbrev pub foundIf : Bool → List ℕ → ℕ → Found
+foundIf holds s at = cond holds (Address (addressAt s at)) Nothing
+
+-- W3: "the list is in order, so stop at the first greater name". Of n whole entries from at on the first that is not smaller decides:
+-- it has this name, or none has.
 unfoldable pub lookupFrom : List ℕ → List ℕ → ℕ → ℕ → Found
 lookupFrom s name zero at = Nothing
 lookupFrom s name (suc n) at =
     cond (wholeAt s at)
-    (cond (equal (nameAt s at) name) (Address (addressAt s at)) (lookupFrom s name n (nextAt s at)))
+    (cond (less (nameAt s at) name) (lookupFrom s name n (nextAt s at)) (foundIf (equal (nameAt s at) name) s at))
     Nothing
+
+-- W3: "Lookup also counts the entries it compares, exactly those up to the first not smaller", and with it; all where all are smaller
+unfoldable pub comparedFrom : List ℕ → List ℕ → ℕ → ℕ → ℕ
+comparedFrom s name zero at = 0
+comparedFrom s name (suc n) at =
+    cond (wholeAt s at)
+    (cond (less (nameAt s at) name) (suc (comparedFrom s name n (nextAt s at))) 1)
+    0
 
 -- "looked up by name in the list": its address, or it isn't there. Of bytes that are no valid list, the whole entries at the front are searched.
 unfoldable pub lookup : List ℕ → List ℕ → Found
 lookup s name = cond (leb 7 (length s)) (lookupFrom s name (listCount s) 7) Nothing
 
--- ---- the entries as a table, which the law `lookup-listed` compares lookup with
+unfoldable pub comparedEntries : List ℕ → List ℕ → ℕ
+comparedEntries s name = cond (leb 7 (length s)) (comparedFrom s name (listCount s) 7) 0
+
+-- what a lookup answers, of n entries from at on and of the list: what it finds, and how many entries it compares
+unfoldable pub findFrom : List ℕ → List ℕ → ℕ → ℕ → Search
+findFrom s name n at = record { found = lookupFrom s name n at; compared = comparedFrom s name n at }
+
+unfoldable pub findOf : List ℕ → List ℕ → Search
+findOf s name = record { found = lookup s name; compared = comparedEntries s name }
+
+-- ---- what the laws `lookup-stays` and `lookup-listed` compare lookup with
+
+-- lookup without W3, which goes on past greater names: the address of the first of n whole entries from at on that has this name
+unfoldable pub firstNamedFrom : List ℕ → List ℕ → ℕ → ℕ → Found
+firstNamedFrom s name zero at = Nothing
+firstNamedFrom s name (suc n) at =
+    cond (wholeAt s at)
+    (cond (equal (nameAt s at) name) (Address (addressAt s at)) (firstNamedFrom s name n (nextAt s at)))
+    Nothing
+
+unfoldable pub firstNamed : List ℕ → List ℕ → Found
+firstNamed s name = cond (leb 7 (length s)) (firstNamedFrom s name (listCount s) 7) Nothing
 
 -- where the entry that stands k entries after the one at at begins
 unfoldable pub entryStart : List ℕ → ℕ → ℕ → ℕ

@@ -1,10 +1,12 @@
 // The symbol list of document 01: valid or refused, and lookup by name. Any bytes get an answer, and the list is never copied.
 ghost use mathlib.Core.Path.{_≡_};
 ghost use mathlib.Core.List.{[]};
+ghost use Prim.Native.Nat.{_+_, _≤_};
+ghost use lib.ListN.{length};
 ghost use Rattle.records.specs.Verdict.{must};
 ghost use Rattle.records.specs.declared.refusal.Place.the-variants.{Nowhere};
-ghost use Rattle.words.specs.Order.{less};
-ghost use Rattle.symbols.specs.SymbolList.{wholeAt, entryAt, entryIf, entriesFrom, lookupFrom, valid, lookup};
+ghost use Rattle.words.specs.Order.{isLess, isSame, less};
+ghost use Rattle.symbols.specs.SymbolList.{wholeAt, entryAt, entryIf, entriesFrom, foundIf, findFrom, valid, findOf};
 use records::refusal::Place;
 use records::refusal::Reason;
 use records::refusal::Verdict;
@@ -14,6 +16,12 @@ use words::bytes;
 pub enum Found {
     Address(u64),
     Nothing,
+}
+
+// What was found, and how many entries were compared with the name for it.
+pub struct Search {
+    pub found: Found,
+    pub compared: usize,
 }
 
 // The longest name of a list.
@@ -63,15 +71,24 @@ fn entry_at(list: &[u8], at: usize) -> Entry
     Entry::Whole(name_length)
 }
 
-// Whether the name `b` may stand after the name `a`.
-fn rises(a: &[u8], b: &[u8]) -> bool
-    ensures { λ r. ⌜ r ≡ less (now (a .entry)) (now (b .entry)) ⌝ }
+// Whether a name that stands so to another is smaller.
+fn smaller(order: bytes::Order) -> bool
+    ensures { λ r. ⌜ r ≡ isLess order ⌝ }
 {
-    match bytes::compare(a, b) {
+    match order {
         bytes::Order::Less => true,
         bytes::Order::Same => false,
         bytes::Order::Greater => false,
     }
+}
+
+// Whether the name `b` may stand after the name `a`.
+fn rises(a: &[u8], b: &[u8]) -> bool
+    ensures { λ r. ⌜ r ≡ less (now (a .entry)) (now (b .entry)) ⌝ }
+{
+    let comparison = bytes::compare(a, b);
+    let order = comparison.order;
+    smaller(order)
 }
 
 // Whether `count` entries follow the head, their names rising, and nothing after them.
@@ -126,34 +143,60 @@ pub fn check(list: &[u8]) -> Verdict
     Verdict::refused(Reason::Invalid, Place::Nowhere)
 }
 
-// The address that the list gives to `name`: at most one pass.
-pub fn find(list: &[u8], name: &[u8]) -> Found
-    ensures { λ r. ⌜ r ≡ lookup (now (list .entry)) (now (name .entry)) ⌝ }
+// The address that the list gives to `name`, searched up to the first entry that is not smaller.
+pub fn find(list: &[u8], name: &[u8]) -> Search
+    ensures { λ r. ⌜ r ≡ findOf (now (list .entry)) (now (name .entry)) ⌝ }
 {
     if list.len() < 7 {
-        return Found::Nothing;
+        return Search {
+            found: Found::Nothing,
+            compared: 0,
+        };
     }
     let count = words::be::read(list, 5, 2) as usize;
     find_from(list, name, count)
 }
 
-// The address of `name` among the first `count` entries.
-fn find_from(list: &[u8], name: &[u8], count: usize) -> Found
-    ensures { λ r. ⌜ r ≡ lookupFrom (now (list .entry)) (now (name .entry)) count 7 ⌝ }
+// The same among the first `count` entries. Each is compared with the name once.
+fn find_from(list: &[u8], name: &[u8], count: usize) -> Search
+    ensures { λ r. ⌜ r ≡ findFrom (now (list .entry)) (now (name .entry)) count 7 ⌝ }
 {
     let mut at = 7;
-    let mut i = 0;
-    while i < count {
+    let mut compared = 0;
+    while compared < count {
         let Entry::Whole(name_length) = whole_at(list, at) else {
-            return Found::Nothing;
+            return Search {
+                found: Found::Nothing,
+                compared: compared,
+            };
         };
         let start = at + 9;
         let end = start + name_length;
-        if bytes::same(&list[start..end], name) {
-            return Found::Address(words::be::read(list, at, 8));
+        let comparison = bytes::compare(&list[start..end], name);
+        let order = comparison.order;
+        if !smaller(order) {
+            return Search {
+                found: found_at(list, at, order),
+                compared: compared + 1,
+            };
         }
         at = end;
-        i += 1;
+        compared += 1;
     }
-    Found::Nothing
+    Search {
+        found: Found::Nothing,
+        compared: compared,
+    }
+}
+
+// What the entry at `at` gives, whose name stands so to the name sought: its address, where the two are the same.
+fn found_at(list: &[u8], at: usize, order: bytes::Order) -> Found
+    requires { ⌜ at + 8 ≤ length (now list) ⌝ }
+    ensures { λ r. ⌜ r ≡ foundIf (isSame order) (now (list .entry)) at ⌝ }
+{
+    match order {
+        bytes::Order::Less => Found::Nothing,
+        bytes::Order::Same => Found::Address(words::be::read(list, at, 8)),
+        bytes::Order::Greater => Found::Nothing,
+    }
 }

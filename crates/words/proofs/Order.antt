@@ -1,5 +1,5 @@
--- Laws of `equal` and `orderOf`: equal is the test whether two byte strings are the same, Same is the answer of `orderOf` exactly
--- where they are, and less is a strict order.
+-- Laws of `equal`, `orderOf` and `comparison`: equal is the test whether two byte strings are the same, Same is the answer of
+-- `orderOf` exactly where they are, less is a strict order, and a comparison goes on from byte to byte up to its answer.
 use Prim.Native.Nat.{ℕ, suc, _+_, _≤_, _<_}
 use mathlib.Core.Path.{_≡_, refl, sym, ap, ap₂, _∙_}
 use mathlib.Core.Bool.{Bool, true, false, _&&_, and-false, and-eq-true-iff, false≢true}
@@ -7,12 +7,14 @@ use mathlib.Core.Logic.{_⊎_, inl, inr, ⊎-elim}
 use mathlib.Core.List.{List, [], _∷_}
 use native.Mathlib.Numerals.{add-one}
 use native.Mathlib.Omega.{arith}
-use borrow.Author.Tests.{eq-eqb, eqb-true, lt-ltb, le-ltb, ltb-true, ltb-false}
+use borrow.Author.Tests.{eq-eqb, ne-eqb, eqb-true, lt-ltb, le-ltb, ltb-true, ltb-false}
 use lib.Dec.{eqb, ltb}
 use lib.ListN.{length, getD, drop, drop-of-length-le}
 use lib.Seq.{drop-cons}
+use Rattle.words.specs.declared.bytes.Comparison.{Comparison}
+use Rattle.words.specs.declared.bytes.Order.{Order}
 use Rattle.words.specs.declared.bytes.Order.the-variants.{Less, Same, Greater}
-use Rattle.words.specs.Order.{equal, orderOf, less, allZero}
+use Rattle.words.specs.Order.{equal, numberOrder, orderOf, isSame, less, comparedBytes, comparison, allZero}
 
 pub equal-same : (a : List ℕ) → equal a a ≡ true
 unfolding equal
@@ -56,6 +58,21 @@ module _ (x y : ℕ) (xs ys : List ℕ) where
   first-same : x ≡ y → orderOf (x ∷ xs) (y ∷ ys) ≡ orderOf xs ys
   unfolding orderOf
   first-same e = rw (le-ltb x y (omega arith), le-ltb y x (omega arith))
+
+  first-differs : (x ≡ y → ⊥) → orderOf (x ∷ xs) (y ∷ ys) ≡ numberOrder x y
+  first-differs h =
+      by-order x y _ _ refl refl
+      (λ l. rw (first-less l, lt-ltb x y l))
+      (λ g. rw (first-greater g, le-ltb x y (omega arith), lt-ltb y x g))
+      (λ e. absurd (h e))
+
+  compared-first : (x ≡ y → ⊥) → comparedBytes (x ∷ xs) (y ∷ ys) ≡ 1
+  unfolding comparedBytes
+  compared-first h = rw (ne-eqb x y h)
+
+  compared-rest : x ≡ y → comparedBytes (x ∷ xs) (y ∷ ys) ≡ suc (comparedBytes xs ys)
+  unfolding comparedBytes
+  compared-rest e = rw (eq-eqb x y e)
 
   less-cases : less (x ∷ xs) (y ∷ ys) ≡ true → (x < y) ⊎ ((x ≡ y) × (less xs ys ≡ true))
   unfolding less
@@ -106,7 +123,35 @@ less-transitive (x ∷ xs) (y ∷ ys) (z ∷ zs) h g =
     (λ p. ⊎-elim (λ q. less-first x z xs zs (omega arith)) (λ q. less-rest x z xs zs (omega arith) (less-transitive xs ys zs (p .1) (q .1))) (less-cases y z ys zs g))
     (less-cases x y xs ys h)
 
+-- "equal" is one of the answers of the order
+pub equal-order : (a b : List ℕ) → equal a b ≡ isSame (orderOf a b)
+unfolding equal orderOf
+equal-order [] [] = refl
+equal-order [] (y ∷ ys) = refl
+equal-order (x ∷ xs) [] = refl
+equal-order (x ∷ xs) (y ∷ ys) =
+    by-order x y _ _ refl refl
+    (λ l. rw (first-less x y xs ys l, ne-eqb x y (λ e. omega arith)))
+    (λ g. rw (first-greater x y xs ys g, ne-eqb x y (λ e. omega arith)))
+    (λ e. rw (first-same x y xs ys e, eq-eqb x y e) (equal-order xs ys))
+
 -- ---- a turn of a loop that compares, and where one string has ended
+
+-- the order that a comparison answers
+pub compared-order : (a b : List ℕ) {r : Comparison} → r ≡ comparison a b → r .order ≡ orderOf a b
+unfolding comparison
+compared-order a b e = ap (λ (r : Comparison). r .order) e
+
+-- an answer, and the one that is left to find where i bytes have been compared
+abbrev pub answer : Order → ℕ → Comparison
+answer o n = record { order = o; compared = n }
+
+abbrev pub after : List ℕ → List ℕ → ℕ → Comparison
+after a b i = answer (orderOf (drop i a) (drop i b)) (i + comparedBytes (drop i a) (drop i b))
+
+pub compared-begin : (a b : List ℕ) → comparison a b ≡ after a b 0
+unfolding comparison
+compared-begin a b = ap (answer (orderOf a b)) (omega arith)
 
 module _ (a b : List ℕ) (i : ℕ) where
   pub equal-at :
@@ -115,28 +160,42 @@ module _ (a b : List ℕ) (i : ℕ) where
   unfolding equal
   equal-at ha hb = rw (add-one i, drop-cons a i 0 ha, drop-cons b i 0 hb)
 
-  pub order-less : i < length a → i < length b → getD a i 0 < getD b i 0 → orderOf (drop i a) (drop i b) ≡ Less
-  order-less ha hb h = rw (drop-cons a i 0 ha, drop-cons b i 0 hb) (first-less _ _ _ _ h)
+  pub compared-differs :
+      i < length a → i < length b → (getD a i 0 ≡ getD b i 0 → ⊥) →
+      after a b i ≡ answer (numberOrder (getD a i 0) (getD b i 0)) (i + 1)
+  compared-differs ha hb h =
+      let n : comparedBytes (drop i a) (drop i b) ≡ 1 =
+      rw (drop-cons a i 0 ha, drop-cons b i 0 hb) (compared-first _ _ _ _ h) in
+      ap₂ answer (rw (drop-cons a i 0 ha, drop-cons b i 0 hb) (first-differs _ _ _ _ h)) (omega (arith, n))
 
-  pub order-greater : i < length a → i < length b → getD b i 0 < getD a i 0 → orderOf (drop i a) (drop i b) ≡ Greater
-  order-greater ha hb h = rw (drop-cons a i 0 ha, drop-cons b i 0 hb) (first-greater _ _ _ _ h)
+  pub compared-further : i < length a → i < length b → getD a i 0 ≡ getD b i 0 → after a b i ≡ after a b (i + 1)
+  compared-further ha hb e =
+      let n : comparedBytes (drop i a) (drop i b) ≡ suc (comparedBytes (drop (i + 1) a) (drop (i + 1) b)) =
+      rw (add-one i, drop-cons a i 0 ha, drop-cons b i 0 hb) (compared-rest _ _ _ _ e) in
+      ap₂ answer
+      (rw (add-one i, drop-cons a i 0 ha, drop-cons b i 0 hb) (first-same _ _ _ _ e))
+      (omega (arith, n))
 
-  pub order-further :
-      i < length a → i < length b → getD b i 0 ≤ getD a i 0 → getD a i 0 ≤ getD b i 0 →
-      orderOf (drop i a) (drop i b) ≡ orderOf (drop (i + 1) a) (drop (i + 1) b)
-  order-further ha hb g h = rw (add-one i, drop-cons a i 0 ha, drop-cons b i 0 hb) (first-same _ _ _ _ (omega arith))
+  none-more : (o : Order) → answer o (i + 0) ≡ answer o i
+  none-more o = ap (answer o) (omega arith)
 
-  pub order-longer : i < length a → length b ≤ i → orderOf (drop i a) (drop i b) ≡ Greater
-  unfolding orderOf
-  order-longer ha hb = rw (drop-cons a i 0 ha, drop-of-length-le b hb)
+  pub compared-longer : i < length a → length b ≤ i → after a b i ≡ answer Greater i
+  unfolding orderOf comparedBytes
+  compared-longer ha hb = rw (drop-cons a i 0 ha, drop-of-length-le b hb) (none-more Greater)
 
-  pub order-shorter : length a ≤ i → i < length b → orderOf (drop i a) (drop i b) ≡ Less
-  unfolding orderOf
-  order-shorter ha hb = rw (drop-cons b i 0 hb, drop-of-length-le a ha)
-
-  pub order-ended : length a ≤ i → length b ≤ i → orderOf (drop i a) (drop i b) ≡ Same
-  unfolding orderOf
-  order-ended ha hb = rw (drop-of-length-le a ha, drop-of-length-le b hb)
+  pub compared-ended :
+      length a ≤ i → i ≤ length a → i ≤ length b → after a b i ≡ answer (numberOrder (length a) (length b)) i
+  unfolding orderOf comparedBytes
+  compared-ended ha ga gb =
+      by-order (length a) (length b) _ _ refl refl
+      (λ l. rw (drop-of-length-le a ha, drop-cons b i 0 (omega arith), lt-ltb _ _ l) (none-more Less))
+      (λ g. absurd (omega arith))
+      (λ e. rw (
+        drop-of-length-le a ha,
+        drop-of-length-le b {i = i} (omega arith),
+        le-ltb (length a) (length b) (omega arith),
+        le-ltb (length b) (length a) (omega arith),
+      ) (none-more Same))
 
 pub all-zero-at : (s : List ℕ) (i : ℕ) → i < length s → allZero (drop i s) ≡ (eqb (getD s i 0) 0 && allZero (drop (i + 1) s))
 unfolding allZero

@@ -3,7 +3,7 @@ ghost use mathlib.Core.Path.{_≡_};
 ghost use Prim.Native.Nat.{_+_, _≤_};
 ghost use lib.ListN.{length, replicate};
 ghost use Rattle.words.specs.Splice.{splice};
-ghost use Rattle.words.specs.Order.{equal, orderOf, allZero};
+ghost use Rattle.words.specs.Order.{equal, numberOrder, comparison, allZero};
 ghost use Rattle.words.specs.Name.{zeroFrom};
 
 // How one byte string stands to another.
@@ -11,6 +11,12 @@ pub enum Order {
     Less,
     Same,
     Greater,
+}
+
+// How one stands to the other, and how many bytes of each were compared for it.
+pub struct Comparison {
+    pub order: Order,
+    pub compared: usize,
 }
 
 // Where a byte was found.
@@ -60,27 +66,45 @@ pub fn same(a: &[u8], b: &[u8]) -> bool
     true
 }
 
-// How `a` stands to `b`, bytewise; a proper beginning is less.
-pub fn compare(a: &[u8], b: &[u8]) -> Order
-    ensures { λ r. ⌜ r ≡ orderOf (now (a .entry)) (now (b .entry)) ⌝ }
+// How one number stands to another.
+fn number_order(x: usize, y: usize) -> Order
+    ensures { λ r. ⌜ r ≡ numberOrder x y ⌝ }
+{
+    if x < y {
+        return Order::Less;
+    }
+    if y < x {
+        return Order::Greater;
+    }
+    Order::Same
+}
+
+// How `a` stands to `b`, bytewise; a proper beginning is less. No byte after the first difference is looked at.
+pub fn compare(a: &[u8], b: &[u8]) -> Comparison
+    ensures { λ r. ⌜ r ≡ comparison (now (a .entry)) (now (b .entry)) ⌝ }
 {
     let mut i = 0;
     while i < a.len() {
         if b.len() <= i {
-            return Order::Greater;
+            return Comparison {
+                order: Order::Greater,
+                compared: i,
+            };
         }
-        if a[i] < b[i] {
-            return Order::Less;
-        }
-        if b[i] < a[i] {
-            return Order::Greater;
+        let x = a[i];
+        let y = b[i];
+        if x != y {
+            return Comparison {
+                order: number_order(x as usize, y as usize),
+                compared: i + 1,
+            };
         }
         i += 1;
     }
-    if i < b.len() {
-        return Order::Less;
+    Comparison {
+        order: number_order(a.len(), b.len()),
+        compared: i,
     }
-    Order::Same
 }
 
 // The first zero byte of `s` at or after `from`.

@@ -1,4 +1,4 @@
-//! Compares the library with the second loader: the stack of a call, named rows, objects of the GNU tools, generated groups,
+//! Compares the library with the second loader: the stack of a call, named rows, objects of the GNU tools, generated groups, lookups,
 //! sequences of calls; then, whether these reached every answer.
 //!
 //!   differential [--cases N] [--sequences M] [--seed S] [--work FOLDER] [--verbose]
@@ -11,6 +11,7 @@ mod abi;
 mod calls;
 mod compare;
 mod groups;
+mod lookups;
 mod reached;
 mod report;
 mod rows;
@@ -76,6 +77,7 @@ fn main() -> ExitCode {
     rows::run(options.verbose, &mut report);
     tools::run(&options.work.join("objects"), &mut report);
     groups::run(options.seed, options.cases, &mut report);
+    lookups::run(options.seed, options.cases, &mut report);
     reached::run(&mut report);
     calls::run(options.seed, options.sequences, &mut report);
     match report.close() {

@@ -2,16 +2,16 @@
 use mathlib.Core.Path.{sym}
 use borrow.Author.Needs.{needs}
 use borrow.Author.Tests.{le-leb, lt-leb}
-use Rattle.symbols.specs.SymbolList.{lookup}
+use Rattle.symbols.specs.SymbolList.{lookup, comparedEntries, findFrom, findOf}
 use Rattle.symbols.proofs.find.Statement.{statement}
 use Rattle.symbols.proofs.find.Tie as tie
 
 returns : tie.Need-returns
-unfolding lookup
+unfolding findOf lookup comparedEntries
 returns c = simp (lt-leb _ _ (c .if1 .taken))
 
 returns-2 : tie.Need-returns-2
-unfolding lookup
+unfolding findOf lookup comparedEntries findFrom
 returns-2 c =
     simp (le-leb _ _ (c .before .before .if1 .left), sym (c .before .read .ensures .0), c .find-from .ensures)
 

@@ -14,6 +14,7 @@ pub mod header;
 pub mod image;
 pub mod kinds;
 pub mod limits;
+pub mod lookup;
 pub mod notes;
 pub mod payload;
 pub mod prepare;

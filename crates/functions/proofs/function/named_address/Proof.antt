@@ -4,6 +4,7 @@ use native.Mathlib.Omega.{arith}
 use borrow.Author.Needs.{needs}
 use borrow.Author.Tests.{le-leb, lt-leb}
 use Rattle.words.specs.Splice.{part}
+use Rattle.symbols.proofs.Laws.{search-found}
 use Rattle.elf.specs.Name.{nameIn}
 use Rattle.elf.proofs.Laws.{Cut, name-found, name-missing}
 use Rattle.functions.specs.Records.{functionFound, namedAddress}
@@ -36,15 +37,15 @@ part-find-end c = omega (arith, cut (c .before .before) .high)
 -- a name of the right length is looked up
 looked-up :
     (c : tie.After-find) → let a = c .before .before .before .before .before .before .before .before .before .before .args in
-    namedAddress (a .list .now) (nameIn (a .placed .now) (a .start)) ≡ functionFound (c .find .result)
+    namedAddress (a .list .now) (nameIn (a .placed .now) (a .start)) ≡ functionFound (c .find .result .found)
 unfolding part
 looked-up c =
     let short = c .before .before in
     let name = cut (short .before .before) in
-    rw (name .name, name .size, le-leb _ _ (short .before .if1 .left), le-leb _ _ (short .if2 .left), c .find .ensures)
+    rw (name .name, name .size, le-leb _ _ (short .before .if1 .left), le-leb _ _ (short .if2 .left), search-found _ _ (c .find .ensures))
 
 returns-4 : tie.Need-returns-4
-returns-4 c = rw (looked-up (c .before .before .before), c .before .a .given .1)
+returns-4 c = rw (looked-up (c .before .before .before), c .before .found .given .1)
 
 returns-5 : tie.Need-returns-5
 returns-5 c = rw (looked-up (c .before .before), c .enum-told2 .given .1)

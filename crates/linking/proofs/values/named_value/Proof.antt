@@ -3,6 +3,7 @@ use mathlib.Core.Path.{_≡_}
 use native.Mathlib.Omega.{arith}
 use borrow.Author.Needs.{needs}
 use Rattle.words.specs.Splice.{part}
+use Rattle.symbols.proofs.Laws.{search-found}
 use Rattle.elf.specs.Name.{nameIn}
 use Rattle.elf.proofs.Laws.{Cut, name-found, name-missing}
 use Rattle.linking.specs.Symbols.{symbolFound, namedValue}
@@ -30,12 +31,12 @@ part-find-end c = omega (arith, cut c .high)
 -- the name is looked up
 looked-up :
     (c : tie.After-find) → let a = c .before .before .before .before .before .before .before .before .args in
-    namedValue (a .list .now) (nameIn (a .strings .now) (a .name)) ≡ symbolFound (c .find .result)
+    namedValue (a .list .now) (nameIn (a .strings .now) (a .name)) ≡ symbolFound (c .find .result .found)
 unfolding part
-looked-up c = rw (cut (c .before .before) .name, c .find .ensures)
+looked-up c = rw (cut (c .before .before) .name, search-found _ _ (c .find .ensures))
 
 returns-2 : tie.Need-returns-2
-returns-2 c = rw (looked-up (c .before .before .before), c .before .a .given .1)
+returns-2 c = rw (looked-up (c .before .before .before), c .before .found .given .1)
 
 returns-3 : tie.Need-returns-3
 returns-3 c = rw (looked-up (c .before .before), c .enum-told2 .given .1)

@@ -1,0 +1,16 @@
+-- `bytes::number_order` meets its contract: each answer is the one of the tests that led there.
+use borrow.Author.Tests.{lt-ltb, le-ltb}
+use Rattle.words.proofs.bytes.number_order.Statement.{statement}
+use Rattle.words.proofs.bytes.number_order.Tie as tie
+
+returns : tie.Need-returns
+returns c = rw (lt-ltb _ _ (c .if1 .taken))
+
+returns-2 : tie.Need-returns-2
+returns-2 c = rw (le-ltb _ _ (c .before .if1 .left), lt-ltb _ _ (c .if2 .taken))
+
+returns-3 : tie.Need-returns-3
+returns-3 c = rw (le-ltb _ _ (c .before .if1 .left), le-ltb _ _ (c .if2 .left))
+
+pub number-order-spec : {M : Type 1} → statement M
+number-order-spec = tie.close (tie.spec returns returns-2 returns-3)
