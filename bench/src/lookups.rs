@@ -25,41 +25,41 @@ fn entry(list: &[u8], at: usize) -> Option<(u64, &[u8], usize)> {
     Some((u64::from_be_bytes(address.try_into().ok()?), list.get(at + 9..next)?, next))
 }
 
-fn entries(list: &[u8]) -> u64 {
-    list.get(5..7).map_or(0, |count| u64::from(u16::from_be_bytes([count[0], count[1]])))
+/// The entries' addresses and names, as many as the list's count says.
+fn entries(list: &[u8]) -> impl Iterator<Item = (u64, &[u8])> {
+    let count = list.get(5..7).map_or(0, |count| u16::from_be_bytes([count[0], count[1]]));
+    let mut at = 7;
+    (0..count).map_while(move |_| {
+        let (address, name, next) = entry(list, at)?;
+        at = next;
+        Some((address, name))
+    })
 }
 
 /// Stops at the first name that is not smaller.
 fn stopping(list: &[u8], name: &[u8]) -> Answer {
-    let mut at = 7;
-    for number in 0..entries(list) {
-        let (address, found, next) = match entry(list, at) {
-            Some(entry) => entry,
-            None => return (3, 0, number),
-        };
+    let mut compared = 0;
+    for (address, found) in entries(list) {
+        compared += 1;
         match found.cmp(name) {
-            Ordering::Less => at = next,
-            Ordering::Equal => return (0, address, number + 1),
-            Ordering::Greater => return (3, 0, number + 1),
+            Ordering::Less => {}
+            Ordering::Equal => return (0, address, compared),
+            Ordering::Greater => return (3, 0, compared),
         }
     }
-    (3, 0, entries(list))
+    (3, 0, compared)
 }
 
 /// Goes on to the name or the list's end.
 fn going_on(list: &[u8], name: &[u8]) -> Answer {
-    let mut at = 7;
-    for number in 0..entries(list) {
-        let (address, found, next) = match entry(list, at) {
-            Some(entry) => entry,
-            None => return (3, 0, number),
-        };
+    let mut compared = 0;
+    for (address, found) in entries(list) {
+        compared += 1;
         if found == name {
-            return (0, address, number + 1);
+            return (0, address, compared);
         }
-        at = next;
     }
-    (3, 0, entries(list))
+    (3, 0, compared)
 }
 
 /// What is looked up: a title and a name.
@@ -108,13 +108,13 @@ pub fn show(rounds: usize) -> Result<(), String> {
     let list = listed(NAMES);
     let bytes = list_bytes(&list);
     println!("a name looked up in a list of {NAMES} names, {} bytes; medians in us:", bytes.len());
-    println!("{:26} {:>8} {:>8} {:>8}   proved / plain   plain / to the end", "", "proved", "plain", "to the end");
+    println!("{:26} {:>8} {:>8} {:>8}   proved / plain   proved / to the end", "", "proved", "plain", "to the end");
     for (title, name) in names(&list) {
         let [proved, plain, whole] = times(&bytes, &name, rounds).map(|times| times.at(50) / EACH as f64);
         println!(
             "  {title:<24} {proved:>8.3} {plain:>8.3} {whole:>10.3} {:>14.2} {:>19.2}",
             proved / plain,
-            plain / whole
+            proved / whole
         );
     }
     Ok(())
