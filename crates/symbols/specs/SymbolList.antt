@@ -84,10 +84,12 @@ comparedFrom s name (suc n) at =
     (cond (less (nameAt s at) name) (suc (comparedFrom s name n (nextAt s at))) 1)
     0
 
--- "looked up by name in the list": its address, or it isn't there. Of bytes that are no valid list, the whole entries at the front are searched.
+-- "looked up by name in the list": its address, or it isn't there. Of bytes that are no valid list, the whole entries at the front are
+-- searched by the same rule.
 unfoldable pub lookup : List ℕ → List ℕ → Found
 lookup s name = cond (leb 7 (length s)) (lookupFrom s name (listCount s) 7) Nothing
 
+-- how many entries a lookup in the list compares: none in an empty one
 unfoldable pub comparedEntries : List ℕ → List ℕ → ℕ
 comparedEntries s name = cond (leb 7 (length s)) (comparedFrom s name (listCount s) 7) 0
 

@@ -25,6 +25,7 @@ orderOf [] (y ∷ ys) = Less
 orderOf (x ∷ xs) [] = Greater
 orderOf (x ∷ xs) (y ∷ ys) = cond (ltb x y) Less (cond (ltb y x) Greater (orderOf xs ys))
 
+-- the orders as tests
 abbrev pub isLess : Order → Bool
 isLess Less = true
 isLess Same = false

@@ -14,7 +14,14 @@ mod library;
 /// Names looked up in one list.
 const NAMES: u64 = 40;
 
-type Group = fn(&mut Rng, u8) -> Result<u64, String>;
+/// How many cases there were, and in how many of them the name was found, or the strings were the same.
+#[derive(Default)]
+struct Tally {
+    cases: u64,
+    found: u64,
+}
+
+type Group = fn(&mut Rng, u8) -> Result<Tally, String>;
 
 /// Groups, their names, and the lists or pairs that each has for a thousand generated cases of a payload.
 const GROUPS: [(Group, &str, u64); 3] = [
@@ -23,51 +30,54 @@ const GROUPS: [(Group, &str, u64); 3] = [
     (of_two_strings, "comparisons", 200),
 ];
 
-/// Runs the groups; each counts as one test.
+/// Runs the groups; each counts as one test. One that finds nothing, or everything, has failed.
 pub fn run(seed: u64, cases: u64, report: &mut Report) {
     let mut seeds = Rng::new(!seed);
     for (group, name, part) in GROUPS {
         let seed = seeds.number();
-        let (count, differences, first) = tried(group, seed, (cases * part + 999) / 1000);
-        if let Some(first) = &first {
+        let (Tally { cases, found }, differences) = tried(group, seed, (cases * part + 999) / 1000);
+        if let Some(first) = differences.first() {
             println!("FIRST DIFFERENCE\n  case: {name}, seed {seed:#018x}\n  {first}");
         }
-        let verdict = if differences == 0 && count > 0 { "ok" } else { "FAILED" };
-        println!("group {name}, seed {seed:#018x}: {verdict}, {count} cases, {differences} differ");
-        report.count(count, differences + u64::from(count == 0));
+        let one_sided = found == 0 || found == cases;
+        let verdict = if differences.is_empty() && !one_sided { "ok" } else { "FAILED" };
+        let differ = differences.len();
+        println!("group {name}, seed {seed:#018x}: {verdict}, {cases} cases ({found} found or same), {differ} differ");
+        report.count(cases, differ as u64 + u64::from(one_sided));
     }
 }
 
-/// How many cases there were, how many differ, and the first that does.
-fn tried(group: Group, seed: u64, times: u64) -> (u64, u64, Option<String>) {
+/// The cases without a difference, and the differences.
+fn tried(group: Group, seed: u64, times: u64) -> (Tally, Vec<String>) {
     let mut rng = Rng::new(seed);
-    let (mut count, mut differences, mut first) = (0, 0, None);
+    let (mut all, mut differences) = (Tally::default(), Vec::new());
     for time in 0..times {
         let fill = if time % 2 == 0 { 0 } else { 0xff };
         match group(&mut rng, fill) {
-            Ok(cases) => count += cases,
-            Err(difference) => {
-                differences += 1;
-                first.get_or_insert(difference);
+            Ok(Tally { cases, found }) => {
+                all.cases += cases;
+                all.found += found;
             }
+            Err(difference) => differences.push(difference),
         }
     }
-    (count + differences, differences, first)
+    (all, differences)
 }
 
-fn in_valid_lists(rng: &mut Rng, fill: u8) -> Result<u64, String> {
+fn in_valid_lists(rng: &mut Rng, fill: u8) -> Result<Tally, String> {
     in_list(&lists::symbol_list(rng), rng, fill)
 }
 
-fn in_damaged_lists(rng: &mut Rng, fill: u8) -> Result<u64, String> {
+fn in_damaged_lists(rng: &mut Rng, fill: u8) -> Result<Tally, String> {
     let mut list = lists::symbol_list(rng);
     symbol_list(&mut list, rng);
     in_list(&list, rng, fill)
 }
 
 /// Names that the list has, names near them, and others.
-fn in_list(list: &[u8], rng: &mut Rng, fill: u8) -> Result<u64, String> {
+fn in_list(list: &[u8], rng: &mut Rng, fill: u8) -> Result<Tally, String> {
     let around = Surrounded::new(list, fill);
+    let mut found = 0;
     for _ in 0..NAMES {
         let name = sought(list, rng);
         let (address, compared) = lookup(list, &name);
@@ -76,8 +86,9 @@ fn in_list(list: &[u8], rng: &mut Rng, fill: u8) -> Result<u64, String> {
         if proved != second {
             return Err(format!("{name:02x?} in {list:02x?}: library {proved:?}, second loader {second:?}"));
         }
+        found += u64::from(address.is_some());
     }
-    Ok(NAMES)
+    Ok(Tally { cases: NAMES, found })
 }
 
 /// Some bytes of the list, more often than not a whole name, changed now and then.
@@ -112,8 +123,8 @@ fn listed(list: &[u8], rng: &mut Rng) -> Option<Vec<u8>> {
 }
 
 /// Strings of few letters, so that many begin alike.
-fn of_two_strings(rng: &mut Rng, fill: u8) -> Result<u64, String> {
-    let mut string = |rng: &mut Rng| {
+fn of_two_strings(rng: &mut Rng, fill: u8) -> Result<Tally, String> {
+    let string = |rng: &mut Rng| {
         let len = rng.index(12);
         (0..len).map(|_| rng.pick(&[0, b'a', b'a', b'a', 0x7f, 0x80, 0xff])).collect::<Vec<u8>>()
     };
@@ -132,7 +143,7 @@ fn of_two_strings(rng: &mut Rng, fill: u8) -> Result<u64, String> {
     };
     let proved = library::compare(Surrounded::new(&a, fill).inner(), Surrounded::new(&b, fill).inner());
     match proved == (number, compared) {
-        true => Ok(1),
+        true => Ok(Tally { cases: 1, found: u64::from(a == b) }),
         false => Err(format!("{a:02x?} and {b:02x?}: library {proved:?}, second loader {:?}", (number, compared))),
     }
 }
