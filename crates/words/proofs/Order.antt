@@ -1,7 +1,7 @@
--- Laws of `equal`, `orderOf` and `comparison`: equal is the test whether two byte strings are the same, Same is the answer of
--- `orderOf` exactly where they are, less is a strict order, and a comparison goes on from byte to byte up to its answer.
+-- Laws of `equal`, `orderOf` and `comparison`: equal is the test whether two byte strings are the same, and whether `orderOf` answers
+-- Same; less is a strict order; and a comparison goes on from byte to byte up to its answer.
 use Prim.Native.Nat.{ℕ, suc, _+_, _≤_, _<_}
-use mathlib.Core.Path.{_≡_, refl, sym, ap, ap₂, _∙_}
+use mathlib.Core.Path.{_≡_, refl, ap, ap₂, _∙_}
 use mathlib.Core.Bool.{Bool, true, false, _&&_, and-false, and-eq-true-iff, false≢true}
 use mathlib.Core.Logic.{_⊎_, inl, inr, ⊎-elim}
 use mathlib.Core.List.{List, [], _∷_}
@@ -94,17 +94,6 @@ pub order-same : (a : List ℕ) → orderOf a a ≡ Same
 unfolding orderOf
 order-same [] = refl
 order-same (x ∷ xs) = first-same x x xs xs refl ∙ order-same xs
-
-pub order-same-equal : (a b : List ℕ) → orderOf a b ≡ Same → a ≡ b
-unfolding orderOf
-order-same-equal [] [] h = refl
-order-same-equal [] (y ∷ ys) h = cc
-order-same-equal (x ∷ xs) [] h = cc
-order-same-equal (x ∷ xs) (y ∷ ys) h =
-    by-order x y _ _ refl refl
-    (λ l. cc (first-less x y xs ys l))
-    (λ g. cc (first-greater x y xs ys g))
-    (λ e. ap₂ _∷_ e (order-same-equal xs ys (sym (first-same x y xs ys e) ∙ h)))
 
 pub less-irreflexive : (a : List ℕ) → less a a ≡ false
 unfolding less
