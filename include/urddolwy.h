@@ -33,7 +33,7 @@ extern "C" {
 /* The number of a refusal, by document 01's table "When the loader says no". Which of them a function gives stands with it. */
 enum urddolwy_reason {
     URDDOLWY_NOT_LOADED = 2,    /* no payload of that name */
-    URDDOLWY_NOT_LISTED = 3,    /* a used symbol or function name is not in the list */
+    URDDOLWY_NOT_LISTED = 3,    /* a used symbol that is not weak, or a function name, is not in the list */
     URDDOLWY_TOO_MANY = 7,      /* list with nr over 8 */
     URDDOLWY_BAD_HEADER = 8,    /* file size or header */
     URDDOLWY_NO_ROOM = 12,      /* no free slot; placed bytes over 8,192 */

@@ -89,7 +89,7 @@ refused() { # TEXT PAYLOAD LIST [OTHER WORDS..]
     check "no file is written for $name" test ! -e image -a ! -e image.0
 }
 
-unlisted='3 not listed: a used symbol or function name is not in the list'
+unlisted='3 not listed: a used symbol that is not weak, or a function name, is not in the list'
 invalid='22 invalid: every other broken rule'
 unsupported='95 unsupported: an unknown section type, flag, kind, relocation type or symbol index'
 range='34 out of range: a 4-byte value out of range'
@@ -170,6 +170,17 @@ refused "refused with 34 at entry 0 of section $rela (.rela.text), symbol near: 
 $alone
   section $rela .rela.text: type 4 (RELA), flags 0x40, alignment 8, size 24, of section $(section far .text) .text
   entry 0: type 4 (R_X86_64_PLT32), offset 0x4, symbol $number near (undefined), addend -4" far near
+
+# A weak name that is missing is 0: far from a field of 4 bytes, and stored in one of 8.
+payload weak bounds.S -DTYPE=4 -DBINDING=.weak
+rela=$(section weak .rela.text) number=$(readelf -sW weak | awk '$8 == "near" { print $1 + 0 }')
+refused "refused with 34 at entry 0 of section $rela (.rela.text), symbol near: its value does not fit into 4 bytes
+  $range
+$alone
+  section $rela .rela.text: type 4 (RELA), flags 0x40, alignment 8, size 24, of section $(section weak .text) .text
+  entry 0: type 4 (R_X86_64_PLT32), offset 0x4, symbol $number near (undefined, weak), addend -4" weak empty
+payload weak_address bounds.S -DTYPE=1 -DBINDING=.weak
+check 'a weak name that is missing, by its address' "$audit" weak_address empty "${place[@]}"
 
 payload unwind hello.c -fasynchronous-unwind-tables
 frame=$(section unwind .eh_frame)

@@ -10,7 +10,7 @@ struct word {
 };
 
 static const struct word groups[] = {
-    {URDDOLWY_NOT_LISTED, "not listed: a used symbol or function name is not in the list"},
+    {URDDOLWY_NOT_LISTED, "not listed: a used symbol that is not weak, or a function name, is not in the list"},
     {URDDOLWY_BAD_HEADER, "bad header: file size or header"},
     {URDDOLWY_NO_ROOM, "no room: placed bytes over 8,192"},
     {URDDOLWY_INVALID, "invalid: every other broken rule"},
@@ -72,7 +72,7 @@ static void print_home(FILE *to, struct bytes file, struct symbol symbol)
 {
     unsigned section = symbol_section(symbol);
     if (section == 0) {
-        fputs(" (undefined)", to);
+        fputs(symbol_weak(symbol) ? " (undefined, weak)" : " (undefined)", to);
     } else if (section >= 0xff00) {
         fprintf(to, " (section index 0x%x, value 0x%" PRIx64 ")", section, symbol_value(symbol));
     } else {

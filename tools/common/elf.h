@@ -75,6 +75,12 @@ static inline uint64_t symbol_value(struct symbol symbol)
     return little(symbol.raw.at + 8, 8);
 }
 
+/* Whether its binding is weak. */
+static inline int symbol_weak(struct symbol symbol)
+{
+    return symbol.raw.at[4] >> 4 == 2;
+}
+
 /* An entry of a relocation section: its 24 bytes, none where the section does not have them, and its symbol. */
 struct entry {
     struct bytes raw;

@@ -20,7 +20,7 @@ use Rattle.placement.specs.Placement.{isPlaced, offsetOf, boundFor}
 use Rattle.placement.specs.declared.Layout.{Layout}
 use Rattle.placement.proofs.PlacementLaws.{offset-kept, bound-kept, bound-past}
 use Rattle.linking.specs.Linking.{Linking}
-use Rattle.linking.specs.Kept.{symbolsMax, sought, valueTold, Holds, decided, undecided, Kept, Stands}
+use Rattle.linking.specs.Kept.{symbolsMax, sought, soughtWeak, valueTold, Holds, decided, undecided, Kept, Stands}
 use Rattle.linking.specs.Symbols.{namedValue, homeOf, standsIn, definedValue, valueBy, symbolValue}
 use Rattle.linking.specs.declared.values.SymbolValue.{SymbolValue}
 use Rattle.linking.specs.declared.values.SymbolValue.the-variants.{Value, Refused}
@@ -98,7 +98,7 @@ module _ {l : Linking} {v : SymbolValue} {state value : ℕ} where
   told h (decided g e) = e
   told h (undecided e n) = absurd (omega arith)
 
-  pub looked-up : sought ≤ state → Holds l v state value → namedValue (l .list) (nameIn (l .strings) value) ≡ v
+  pub looked-up : sought ≤ state → Holds l v state value → namedValue (eqb state soughtWeak) (l .list) (nameIn (l .strings) value) ≡ v
   looked-up h (decided g e) = absurd (omega arith)
   looked-up h (undecided e n) = n
 

@@ -21,7 +21,8 @@ use Rattle.linking.specs.declared.values.SymbolValue.the-variants.{Value
 abbrev pub symbolsMax : ℕ
 symbolsMax = fileMax / symbolSize + 1
 
--- the states of a symbol: the value is known; there is none, with 22; there is none, with 95; the name that stands at value is to be looked up
+-- the states of a symbol: the value is known; there is none, with 22; there is none, with 95; the name that stands at value is to be looked up,
+-- of a symbol with another binding than weak and of a weak one
 abbrev pub known : ℕ
 known = 0
 
@@ -34,6 +35,9 @@ unsupported = 2
 abbrev pub sought : ℕ
 sought = 3
 
+abbrev pub soughtWeak : ℕ
+soughtWeak = 4
+
 -- what state and value tell of a symbol that need not be looked up
 abbrev pub valueTold : ℕ → ℕ → SymbolValue
 valueTold state value =
@@ -44,7 +48,7 @@ valueTold state value =
 -- state and value stand for a symbol that is worth v
 pub data Holds (l : Linking) (v : SymbolValue) (state value : ℕ) : Type 0 where
   decided : state < sought → valueTold state value ≡ v → Holds l v state value
-  undecided : state ≡ sought → namedValue (l .list) (nameIn (l .strings) value) ≡ v → Holds l v state value
+  undecided : sought ≤ state → namedValue (eqb state soughtWeak) (l .list) (nameIn (l .strings) value) ≡ v → Holds l v state value
 
 -- the cells, two for each number that a table in a file can have, stand for the symbols of l
 pub record Kept (l : Linking) (cells : List ℕ) : Type 0 where

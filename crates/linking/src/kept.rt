@@ -5,7 +5,7 @@ ghost use lib.ListN.{length};
 ghost use Rattle.records.specs.Limits.{fileMax};
 ghost use Rattle.linking.specs.Linking.{Linking};
 ghost use Rattle.linking.specs.Kept.{symbolsMax, Holds, Kept, Stands, Sought};
-ghost use Rattle.linking.specs.Symbols.{definedValue, valueBy, symbolValue};
+ghost use Rattle.linking.specs.Symbols.{undefinedValue, definedValue, valueBy, symbolValue};
 use super::values::SymbolValue;
 use super::values::{self};
 use elf::Symbol;
@@ -24,7 +24,8 @@ impl Cell {
     pub const SYMBOLS_MAX: usize = Payload::FILE_MAX / elf::SYMBOL_SIZE + 1;
 
     pub const COUNT: usize = 2 * Cell::SYMBOLS_MAX;
-    // The states: the value is known; there is none, with 22 or with 95; the name is to be looked up.
+    // The states: the value is known; there is none, with 22 or with 95; the name is to be looked up, of a symbol
+    // that is not weak and of a weak one.
     const KNOWN: u64 = 0;
 
     const INVALID: u64 = 1;
@@ -32,6 +33,8 @@ impl Cell {
     const UNSUPPORTED: u64 = 2;
 
     const SOUGHT: u64 = 3;
+
+    const SOUGHT_WEAK: u64 = 4;
 }
 
 // A symbol of a section: the section's address plus the symbol's value.
@@ -56,6 +59,22 @@ fn defined_cell(slot: u64, layout: Layout, s: Symbol) -> Cell
     }
 }
 
+// An undefined symbol: where its name begins. Weak binding is 2 in the upper four bits of st_info.
+fn undefined_cell(s: Symbol) -> Cell
+    ensures { λ r. ⌜ ((l : Linking) → Holds l (undefinedValue (l .strings) (l .list) s) (r .state) (r .value)) ⌝ }
+{
+    if s.st_info / 16 == 2 {
+        return Cell {
+            state: Cell::SOUGHT_WEAK,
+            value: s.st_name,
+        };
+    }
+    Cell {
+        state: Cell::SOUGHT,
+        value: s.st_name,
+    }
+}
+
 // A symbol by its section index.
 fn symbol_cell(slot: u64, layout: Layout, s: Symbol) -> Cell
     ensures { λ r. ⌜ ((l : Linking) → Stands l slot layout → Holds l (valueBy l s) (r .state) (r .value)) ⌝ }
@@ -68,10 +87,7 @@ fn symbol_cell(slot: u64, layout: Layout, s: Symbol) -> Cell
         };
     }
     if index == 0 {
-        return Cell {
-            state: Cell::SOUGHT,
-            value: s.st_name,
-        };
+        return undefined_cell(s);
     }
     if 0xff00 <= index {
         return Cell {
@@ -143,7 +159,7 @@ pub fn value_of(cells: &mut [u64], strings: &[u8], list: &[u8], number: u64) -> 
     if state == Cell::INVALID {
         return SymbolValue::Refused(Reason::Invalid);
     }
-    let found = values::named_value(strings, list, value);
+    let found = values::named_value(strings, list, value, state == Cell::SOUGHT_WEAK);
     if let SymbolValue::Value(a) = found {
         cells[2 * i] = Cell::KNOWN;
         cells[2 * i + 1] = a;

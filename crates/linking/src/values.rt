@@ -11,9 +11,10 @@ pub enum SymbolValue {
     Refused(Reason),
 }
 
-// The value of an undefined symbol: its name, which begins at `name` of the string table, looked up in the symbol list.
-pub(crate) fn named_value(strings: &[u8], list: &[u8], name: u64) -> SymbolValue
-    ensures { λ r. ⌜ r ≡ namedValue (now (list .entry)) (nameIn (now (strings .entry)) name) ⌝ }
+// The value of an undefined symbol: its name, which begins at `name` of the string table, looked up in the symbol list. A weak
+// one that is not listed is 0.
+pub(crate) fn named_value(strings: &[u8], list: &[u8], name: u64, weak: bool) -> SymbolValue
+    ensures { λ r. ⌜ r ≡ namedValue weak (now (list .entry)) (nameIn (now (strings .entry)) name) ⌝ }
 {
     let start = name as usize;
     let bytes::Found::At(end) = elf::name_end(strings, name) else {
@@ -23,6 +24,11 @@ pub(crate) fn named_value(strings: &[u8], list: &[u8], name: u64) -> SymbolValue
     let found = search.found;
     match found {
         symbols::Found::Address(a) => SymbolValue::Value(a),
-        symbols::Found::Nothing => SymbolValue::Refused(Reason::NotListed),
+        symbols::Found::Nothing => {
+            if weak {
+                return SymbolValue::Value(0);
+            }
+            SymbolValue::Refused(Reason::NotListed)
+        },
     }
 }

@@ -26,7 +26,7 @@ use Rattle.records.specs.declared.refusal.Verdict.the-variants.{Pass, Re
 abbrev pub numberOf : Reason → ℕ
 -- "no payload of that name"
 numberOf NotLoaded = 2
--- "a used symbol or function name isn't in the list"
+-- "a used symbol or function name isn't in the list"; of symbols "for other bindings only" than weak (W4)
 numberOf NotListed = 3
 -- "list with nr over 8"
 numberOf TooMany = 7

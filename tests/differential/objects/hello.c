@@ -27,6 +27,11 @@ struct livepatch_func livepatch_hello_world __attribute__((__section__(".livepat
     .old_size = 13,
 };
 
+#ifdef MISSING
+extern int missing(void) MISSING;
+int (*tested)(void) = missing;
+#endif
+
 #ifdef HOOK
 static void loaded(void) {}
 static void *load_hook __attribute__((__section__(".livepatch.hooks.load"), used)) = loaded;

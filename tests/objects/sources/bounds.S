@@ -1,5 +1,8 @@
-/* One field that reaches a name outside: a call (type 4), a distance (type 2) or an address (type 1). The record is a
- * fill, so that no other distance matters. */
+/* One field that reaches a name outside: a call (type 4), a distance (type 2) or an address (type 1). The name is global, or of
+ * another BINDING. The record is a fill, so that no other distance matters. */
+#ifndef BINDING
+#define BINDING .globl
+#endif
         .text
         .nops 3
 #if TYPE == 4
@@ -12,6 +15,7 @@ field:  .long near - .
 field:  .quad near
 #endif
         .hidden near
+        BINDING near
 
         .section .livepatch.funcs, "aw", @progbits
         .quad 0, 0, 0xffff82d080100000

@@ -1,5 +1,5 @@
 //! How far a field reaches: the library refuses with 34 exactly where GNU ld says that a relocation is truncated, and
-//! with 3 where ld finds no such name.
+//! with 3 where ld finds no such name. A weak name that is missing is 0 to both.
 
 use crate::abi::{in_words, prepare, Place};
 use crate::elf::{get, sections, RELA};
@@ -15,10 +15,10 @@ const SLOTS: [u64; 3] = [0xffff_82d0_8040_0000, 0x1000, 0xffff_ffff_ffff_e000];
 
 pub fn run(work: &Path, report: &mut Report) {
     let before = report.counts();
-    for kind in [1, 2, 4] {
-        let folder = work.join(format!("bounds-{kind}"));
-        report.about(&format!("a field of type {kind}"));
-        if let Err(error) = make(&folder, kind).and_then(|()| field(&folder, kind, report)) {
+    for (kind, binding) in [1, 2, 4].into_iter().flat_map(|kind| [(kind, "globl"), (kind, "weak")]) {
+        let folder = work.join(format!("bounds-{kind}-{binding}"));
+        report.about(&format!("a field of type {kind}, the name {binding}"));
+        if let Err(error) = make(&folder, kind, binding).and_then(|()| field(&folder, kind, report)) {
             report.fail("it was not compared", &error);
         }
     }
@@ -26,9 +26,9 @@ pub fn run(work: &Path, report: &mut Report) {
     println!("bounds of fields: {} passed, {} failed", after.0 - before.0, after.1 - before.1);
 }
 
-fn make(folder: &Path, kind: u64) -> Result<(), String> {
+fn make(folder: &Path, kind: u64, binding: &str) -> Result<(), String> {
     sources(folder)?;
-    let field = compiled(folder, "bounds.S", &[&format!("-DTYPE={kind}")])?;
+    let field = compiled(folder, "bounds.S", &[&format!("-DTYPE={kind}"), &format!("-DBINDING=.{binding}")])?;
     let depends = compiled(folder, "depends.S", &[])?;
     tool(folder, &["ld", "-r", "--build-id=0x01020304", "-o", "payload.o", &field, &depends])?;
     let all = sections(&read(folder, "payload.o")?)?;

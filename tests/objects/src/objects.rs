@@ -8,11 +8,11 @@ use crate::oracle::defined;
 use crate::recipes::{all, Recipe, FLAGS};
 use crate::report::Report;
 use crate::tools::{read, tool, write};
-use std::collections::BTreeMap;
+use std::collections::{BTreeMap, BTreeSet};
 use std::path::Path;
 
 /// The sources, compiled into this program.
-const SOURCES: [(&str, &str); 15] = [
+const SOURCES: [(&str, &str); 17] = [
     ("livepatch.h", include_str!("../sources/livepatch.h")),
     ("hello.c", include_str!("../sources/hello.c")),
     ("calls.c", include_str!("../sources/calls.c")),
@@ -20,6 +20,8 @@ const SOURCES: [(&str, &str); 15] = [
     ("many.c", include_str!("../sources/many.c")),
     ("strings.c", include_str!("../sources/strings.c")),
     ("more_strings.c", include_str!("../sources/more_strings.c")),
+    ("weak.c", include_str!("../sources/weak.c")),
+    ("weak_code.c", include_str!("../sources/weak_code.c")),
     ("fill.S", include_str!("../sources/fill.S")),
     ("fields.S", include_str!("../sources/fields.S")),
     ("fixed.S", include_str!("../sources/fixed.S")),
@@ -36,7 +38,7 @@ pub const TEXT: (u64, u64) = (0xffff_82d0_8010_0000, 0x20_0000);
 const SLOTS: [u64; 3] = [0xffff_82d0_8040_0000, 0xffff_82d0_7fff_6000, 0xffff_82d0_ffc0_2000];
 
 pub fn run(work: &Path, report: &mut Report) {
-    let mut types = BTreeMap::new();
+    let (mut types, mut weak) = (BTreeMap::new(), BTreeSet::new());
     for (index, recipe) in all().iter().enumerate() {
         let folder = work.join(format!("{index:02}"));
         report.about(recipe.name);
@@ -49,6 +51,7 @@ pub fn run(work: &Path, report: &mut Report) {
                 let (passed, failed) = (after.0 - before.0, after.1 - before.1);
                 println!("{}: relocations {found:?}, {passed} passed, {failed} failed", recipe.name);
                 found.into_iter().for_each(|(kind, count)| *types.entry(kind).or_insert(0) += count);
+                weak.extend(weak_names(&folder));
             }
         }
     }
@@ -56,6 +59,15 @@ pub fn run(work: &Path, report: &mut Report) {
     let unseen = [0, 1, 2, 4].into_iter().filter(|kind| !types.contains_key(kind));
     let unseen: Vec<String> = unseen.map(|kind| format!("no relocation of type {kind} was met")).collect();
     report.compare("relocation types that the rules know", &unseen);
+    report.compare("weak names", &unmet(&weak));
+}
+
+/// Of weak names that are listed and of weak names that are missing, which were not met.
+fn unmet(weak: &BTreeSet<String>) -> Vec<String> {
+    let is_listed = |name: &String| OUTSIDE.iter().any(|(listed, _)| listed == name);
+    let met = |listed: bool| weak.iter().any(|name| is_listed(name) == listed);
+    let kinds = [(true, "listed"), (false, "missing")].into_iter().filter(|(listed, _)| !met(*listed));
+    kinds.map(|(_, kind)| format!("no weak name that is {kind} was met")).collect()
 }
 
 fn one(folder: &Path, recipe: &Recipe, slot_base: u64, report: &mut Report) {
@@ -80,6 +92,12 @@ fn make(folder: &Path, recipe: &Recipe) -> Result<BTreeMap<u64, usize>, String> 
         tool(folder, words)?;
     }
     Ok(relocation_types(&sections(&read(folder, "payload.o")?)?))
+}
+
+/// The undefined names with weak binding that `nm` lists of a folder's payload.o.
+fn weak_names(folder: &Path) -> Vec<String> {
+    let listed = tool(folder, &["nm", "-u", "payload.o"]).unwrap_or_default();
+    listed.lines().filter_map(|line| line.trim_start().strip_prefix("w ")).map(String::from).collect()
 }
 
 /// Writes the sources into a new folder.

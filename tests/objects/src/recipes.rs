@@ -45,6 +45,8 @@ const CALLS: &[(u64, Edit)] =
     &[(DOMCTL, Jump("first")), (PRINTK, Jump("later")), (0xffff_82d0_8011_0000, Jump("tail")), (TEXT, Jump("chosen"))];
 const DATA: &[(u64, Edit)] = &[(DOMCTL, Jump("summed"))];
 const STRINGS: &[(u64, Edit)] = &[(VERSION, Jump("word")), (DOMCTL, Jump("other"))];
+const WEAK: &[(u64, Edit)] = &[(DOMCTL, Jump("announced"))];
+const WEAK_CODE: &[(u64, Edit)] = &[(DOMCTL, Jump("announced")), (VERSION, Jump("announced_directly"))];
 const FILLS: &[(u64, Edit)] =
     &[(TEXT, Fill(1)), (PRINTK, Fill(9)), (DOMCTL, Jump("replacement")), (0xffff_82d0_802f_ffe1, Fill(31))];
 const FIELDS: &[(u64, Edit)] = &[(VERSION, Jump("two")), (0xffff_82d0_802f_fffb, Jump("last"))];
@@ -105,6 +107,10 @@ fn strings(name: &'static str, compile: Words) -> Recipe {
     Recipe { name, compile, sources: &["strings.c", "more_strings.c", "depends.S"], edits: STRINGS, ..PLAIN }
 }
 
+fn weak(name: &'static str, sources: Words, compile: Words, edits: &'static [(u64, Edit)]) -> Recipe {
+    Recipe { name, sources, compile, edits, ..PLAIN }
+}
+
 fn own_notes(name: &'static str, sources: Words, edits: &'static [(u64, Edit)]) -> Recipe {
     const ID: &[u8] = &{
         let mut id = [0x5a; 64];
@@ -128,6 +134,8 @@ pub fn all() -> Vec<Recipe> {
         data("data, absolute addresses alone", LARGE),
         hello("hello world with debugging information", &["-g"]),
         calls("calls with debugging information", &["-g", "-O1", "-ffunction-sections"]),
+        weak("weak names, their addresses in data", &["weak.c", "depends.S"], &[], WEAK),
+        weak("weak names, their addresses in code", &["weak.c", "weak_code.c", "depends.S"], LARGE, WEAK_CODE),
         Recipe { name: "fills", sources: &["fill.S", "depends.S"], edits: FILLS, ..PLAIN },
         strings("strings", &[]),
         strings("strings, not mergeable", NO_COPY),

@@ -20,6 +20,7 @@ mod relocations;
 mod sections;
 mod symbol_list;
 mod symbols;
+mod weak_symbols;
 
 use crate::payloads::assemble::input;
 use crate::payloads::template::template;
@@ -156,6 +157,7 @@ pub fn table() -> Table {
     placement::rows(&mut table);
     relocations::rows(&mut table);
     symbols::rows(&mut table);
+    weak_symbols::rows(&mut table);
     record_names::rows(&mut table);
     records::rows(&mut table);
     edits::rows(&mut table);

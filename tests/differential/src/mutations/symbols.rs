@@ -12,18 +12,18 @@ fn use_symbol(draft: &mut Draft, symbol: u32) {
 }
 
 /// Lets that relocation use a new symbol.
-fn use_new(draft: &mut Draft, symbol: Symbol) {
+pub(super) fn use_new(draft: &mut Draft, symbol: Symbol) {
     let number = draft.add_symbol(symbol);
     use_symbol(draft, number);
 }
 
 /// Refused with a number at that relocation.
-fn refused(number: u64) -> Expect {
+pub(super) fn refused(number: u64) -> Expect {
     entry(number, "rela_text", 0)
 }
 
 /// Accepted, with this value stored.
-fn value(value: u64) -> Expect {
+pub(super) fn value(value: u64) -> Expect {
     Holds(vec![InSection("text", 8, value.to_le_bytes().to_vec())])
 }
 
@@ -76,7 +76,7 @@ fn absolute(t: &mut Table) {
 
 /// Copies the symbol names to the file's end, more bytes after them of which the table has so many, and lets the last
 /// symbol's name begin there.
-fn more_names(draft: &mut Draft, more: &'static [u8], counted: usize) {
+pub(super) fn more_names(draft: &mut Draft, more: &'static [u8], counted: usize) {
     draft.then(move |a| {
         let (offset, names) = (a.file.len() as u64, a.contents("strtab").to_vec());
         a.file.extend(&names);
@@ -155,11 +155,6 @@ fn names(t: &mut Table) {
         d.list.clear();
         use_symbol(d, PRINTK);
     });
-    for info in [0x00, 0x10, 0x20, 0xff] {
-        t.prepare("SMB-05", format!("a missing name with info {info:#x}"), refused(3), move |d| {
-            use_new(d, Symbol { info, ..Symbol::new(b"missing", Ref::Number(0), 0) });
-        });
-    }
 }
 
 fn indices(t: &mut Table) {

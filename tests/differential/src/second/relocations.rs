@@ -47,6 +47,11 @@ pub fn displacement(to: u64, from: u64) -> Option<[u8; 4]> {
     i32::try_from(difference).ok().map(i32::to_le_bytes)
 }
 
+/// Whether st_info has weak binding.
+fn is_weak(info: u64) -> bool {
+    info & 0xf0 == 0x20
+}
+
 /// The value of a symbol that a relocation uses; in a refusal, its number.
 fn symbol_value(payload: &Payload, list: &SymbolList, image: &Image, number: u64) -> Result<u64, u64> {
     if number == 0 {
@@ -58,7 +63,8 @@ fn symbol_value(payload: &Payload, list: &SymbolList, image: &Image, number: u64
         0 => {
             let strings = payload.contents(payload.sections[payload.symbols].link as usize);
             let name = name_at(strings, field(entry, 0, 4)).ok_or(22u64)?;
-            list.address(name).ok_or(3)
+            let missing = if is_weak(field(entry, 4, 1)) { Ok(0) } else { Err(3) };
+            list.address(name).map_or(missing, Ok)
         }
         0xfff1 => Ok(value),
         0xff00.. => Err(95),
@@ -76,6 +82,12 @@ fn symbol_value(payload: &Payload, list: &SymbolList, image: &Image, number: u64
 #[cfg(test)]
 mod tests {
     use super::*;
+
+    #[test]
+    fn weak_binding_is_2_in_the_upper_half() {
+        let weak: Vec<u64> = (0..=255).filter(|info| is_weak(*info)).collect();
+        assert_eq!(weak, (32..48).collect::<Vec<u64>>());
+    }
 
     #[test]
     fn k3() {

@@ -1,9 +1,8 @@
 -- `symbol_cell` meets its contract.
-use mathlib.Core.Path.{refl}
 use native.Mathlib.Omega.{arith}
 use borrow.Author.Needs.{needs}
 use borrow.Author.Tests.{eq-eqb, ne-eqb, le-leb, lt-leb}
-use Rattle.linking.specs.Kept.{decided, undecided}
+use Rattle.linking.specs.Kept.{decided}
 use Rattle.linking.specs.Symbols.{valueBy}
 use Rattle.linking.proofs.kept.symbol_cell.Statement.{statement}
 use Rattle.linking.proofs.kept.symbol_cell.Tie as tie
@@ -14,7 +13,8 @@ returns c = λ l stands. decided (omega arith) (rw (eq-eqb _ 0xfff1 (c .if1 .tak
 
 returns-2 : tie.Need-returns-2
 unfolding valueBy
-returns-2 c = λ l stands. undecided refl (simp (ne-eqb _ 0xfff1 (c .before .if1 .left), eq-eqb _ 0 (c .if2 .taken)))
+returns-2 c = λ l stands.
+    simp (ne-eqb _ 0xfff1 (c .before .before .if1 .left), eq-eqb _ 0 (c .before .if2 .taken)) (c .undefined-cell .ensures l)
 
 returns-3 : tie.Need-returns-3
 unfolding valueBy
@@ -30,4 +30,4 @@ returns-4 c = λ l stands.
     (c .defined-cell .ensures l stands)
 
 pub symbol-cell-spec : {M : Type 1} → statement M
-symbol-cell-spec = tie.close (tie.spec returns returns-2 returns-3 (λ c κs. search needs) returns-4)
+symbol-cell-spec = tie.close (tie.spec returns (λ c κs. search needs) returns-2 returns-3 (λ c κs. search needs) returns-4)

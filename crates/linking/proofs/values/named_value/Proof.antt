@@ -31,15 +31,18 @@ part-find-end c = omega (arith, cut c .high)
 -- the name is looked up
 looked-up :
     (c : tie.After-find) → let a = c .before .before .before .before .before .before .before .before .args in
-    namedValue (a .list .now) (nameIn (a .strings .now) (a .name)) ≡ symbolFound (c .find .result .found)
+    namedValue (a .weak) (a .list .now) (nameIn (a .strings .now) (a .name)) ≡ symbolFound (a .weak) (c .find .result .found)
 unfolding part
 looked-up c = rw (cut (c .before .before) .name, search-found _ _ (c .find .ensures))
 
 returns-2 : tie.Need-returns-2
-returns-2 c = rw (looked-up (c .before .before .before), c .before .found .given .1)
+returns-2 c = rw (looked-up (c .before .before .before), c .before .enum-told2 .given .1, c .if1 .taken)
 
 returns-3 : tie.Need-returns-3
-returns-3 c = rw (looked-up (c .before .before), c .enum-told2 .given .1)
+returns-3 c = rw (looked-up (c .before .before .before), c .before .found .given .1)
+
+returns-4 : tie.Need-returns-4
+returns-4 c = rw (looked-up (c .before .before .before), c .before .enum-told2 .given .1, c .if1 .left)
 
 pub named-value-spec : {M : Type 1} → statement M
 named-value-spec =
@@ -56,4 +59,5 @@ named-value-spec =
     (λ c. search needs)
     (λ c. search needs)
     returns-2
-    returns-3)
+    returns-3
+    returns-4)

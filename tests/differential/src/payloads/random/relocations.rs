@@ -51,8 +51,22 @@ fn broken(rng: &mut Rng) -> Symbol {
     Symbol { name_at: Some(rng.number() as u32), info: rng.byte(), ..Symbol::new(b"", home, rng.number()) }
 }
 
+/// A weak symbol that is not listed.
+fn weak(draft: &Draft, rng: &mut Rng) -> Option<Symbol> {
+    let any = random_name(rng);
+    let name = rng.pick(&[&any[..], &any, &[], &[b'w'; 130]]);
+    let info = 0x20 | rng.byte() & 0xf;
+    let listed = draft.list.iter().any(|entry| entry.0 == name);
+    Some(Symbol { info, ..Symbol::new(name, Ref::Number(0), rng.number()) }).filter(|_| !listed)
+}
+
 /// A symbol and its value.
 fn usable(draft: &Draft, rng: &mut Rng) -> (Symbol, u64) {
+    if rng.one_in(6) {
+        if let Some(symbol) = weak(draft, rng) {
+            return (symbol, 0);
+        }
+    }
     let (starts, _) = draft.placement();
     let places: Vec<usize> = (0..starts.len()).filter(|index| starts[*index].is_some()).collect();
     let (symbol, value) = match rng.below(5) {
