@@ -17,7 +17,7 @@ use words::bytes;
 use words::bytes::Found;
 
 // Where the payload stands in the list; 0 where the verdict refuses.
-#[derive(Drop)]
+#[derive(Clone, Copy)]
 pub struct Target {
     pub verdict: Verdict,
     pub place: usize,

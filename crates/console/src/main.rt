@@ -12,7 +12,7 @@ use state::state::State;
 const HELD_MAX: usize = Console::LINE_MAX + 1;
 
 // What is kept from one read to the next: the console, the loader's state, and how many bytes of the line are held.
-#[derive(Drop)]
+#[derive(Clone, Copy)]
 struct Run {
     console: Console,
     state: State,
@@ -20,7 +20,7 @@ struct Run {
 }
 
 // What is kept, and whether there may be more to read.
-#[derive(Drop)]
+#[derive(Clone, Copy)]
 struct Served {
     run: Run,
     more: bool,

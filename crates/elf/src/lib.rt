@@ -1,5 +1,7 @@
 // The ELF g_a_b_i's layouts, 64-bit and little-endian, read into structs by value.
 // A `read_` function reads bytes that its caller knows to be there.
+#![tactic(auto)]
+
 ghost use Rattle.std.specs.Prelude.{◌≡◌, ◌+◌, ◌≤◌, length};
 ghost use Rattle.words.specs.Name.{zero_from};
 ghost use Rattle.elf.specs.Layout.{
@@ -35,7 +37,7 @@ pub const RELOCATION_SIZE: usize = 24;
 
 pub const NOTE_HEAD_SIZE: usize = 16;
 
-#[derive(Drop)]
+#[derive(Clone, Copy)]
 pub struct FileHeader {
     pub magic: u64,
     pub ei_class: u64,
@@ -50,7 +52,7 @@ pub struct FileHeader {
     pub e_shstrndx: u64,
 }
 
-#[derive(Drop)]
+#[derive(Clone, Copy)]
 pub struct SectionHeader {
     pub sh_name: u64,
     pub sh_type: u64,
@@ -63,7 +65,7 @@ pub struct SectionHeader {
     pub sh_entsize: u64,
 }
 
-#[derive(Drop)]
+#[derive(Clone, Copy)]
 pub struct Symbol {
     pub st_name: u64,
     pub st_info: u64,
@@ -72,7 +74,7 @@ pub struct Symbol {
 }
 
 // r_info's low half is the type and its high half the symbol.
-#[derive(Drop)]
+#[derive(Clone, Copy)]
 pub struct Relocation {
     pub r_offset: u64,
     pub r_type: u64,
@@ -81,7 +83,7 @@ pub struct Relocation {
 }
 
 // The head of a note: its name's size, its descriptor's size, its type, and its name's first four bytes.
-#[derive(Drop)]
+#[derive(Clone, Copy)]
 pub struct Note {
     pub n_namesz: u64,
     pub n_descsz: u64,

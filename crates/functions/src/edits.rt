@@ -12,7 +12,7 @@ use records::payload::{Edit, EditKind, Payload};
 use records::refusal::Reason;
 
 // The edit, or why the record is refused.
-#[derive(Drop)]
+#[derive(Clone, Copy)]
 pub enum RecordEdit {
     Make(Edit),
     Fault(Reason),

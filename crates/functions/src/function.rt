@@ -9,7 +9,7 @@ use machine::host::Host;
 use records::refusal::Reason;
 use words::bytes;
 
-#[derive(Drop)]
+#[derive(Clone, Copy)]
 pub struct FunctionRecord {
     pub name: u64,
     pub new_addr: u64,
@@ -20,7 +20,7 @@ pub struct FunctionRecord {
 }
 
 // The old address, or why there is none.
-#[derive(Drop)]
+#[derive(Clone, Copy)]
 pub enum OldAddress {
     At(u64),
     Refused(Reason),

@@ -12,7 +12,7 @@ use records::payload::{Edit, Payload};
 use records::refusal::{Place, Refusal, Verdict};
 
 // The edits, none where the verdict refuses.
-#[derive(Drop)]
+#[derive(Clone, Copy)]
 pub struct Functions {
     pub verdict: Verdict,
     pub edits: [Edit; Payload::RECORDS_MAX],

@@ -8,7 +8,7 @@ use records::payload::Payload;
 use state::state::State;
 
 // How the next line is read: before a start-up succeeded, as a command, as a payload's, as a dropped payload's.
-#[derive(Drop)]
+#[derive(Clone, Copy)]
 pub enum Mode {
     Off,
     Ready,
@@ -17,7 +17,7 @@ pub enum Mode {
 }
 
 // The lines read so far, the mode, and how many bytes of each buffer count.
-#[derive(Drop)]
+#[derive(Clone, Copy)]
 pub struct Console {
     pub lines: u64,
     pub mode: Mode,
@@ -29,7 +29,7 @@ pub struct Console {
 }
 
 // What a line gives: the console and the loader's state after it, and how many bytes were written.
-#[derive(Drop)]
+#[derive(Clone, Copy)]
 pub struct Stepped {
     pub console: Console,
     pub state: State,

@@ -1,4 +1,6 @@
 // What a section is, by its type, its flag 0x2 and its name.
+#![tactic(auto)]
+
 ghost use Rattle.std.specs.Prelude.{◌≡◌};
 ghost use Rattle.elf.specs.Name.{name_in};
 ghost use Rattle.kinds.specs.Kinds.{
@@ -19,7 +21,7 @@ ghost use Rattle.kinds.specs.Kinds.{
 use elf::SectionHeader;
 use words::bytes;
 
-#[derive(Drop)]
+#[derive(Clone, Copy)]
 pub enum Kind {
     // Type 0: ignored.
     Null,

@@ -12,7 +12,7 @@ use records::payload::Payload;
 use records::refusal::Reason;
 
 // A symbol's state, and its value or where its name begins.
-#[derive(Drop)]
+#[derive(Clone, Copy)]
 pub struct Cell {
     pub state: u64,
     pub value: u64,

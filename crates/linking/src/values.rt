@@ -7,7 +7,7 @@ use records::refusal::Reason;
 use words::bytes;
 
 // The value, or why there is none.
-#[derive(Drop)]
+#[derive(Clone, Copy)]
 pub enum SymbolValue {
     Value(u64),
     Refused(Reason),

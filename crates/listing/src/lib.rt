@@ -24,7 +24,7 @@ use records::refusal::{Place, Reason, Verdict};
 use state::state::State;
 
 // How many entries were written and how many are left after them, and the version; all 0 where the verdict refuses.
-#[derive(Drop)]
+#[derive(Clone, Copy)]
 pub struct Listed {
     pub verdict: Verdict,
     pub written: u32,

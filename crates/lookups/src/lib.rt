@@ -1,4 +1,6 @@
 // A lookup and a comparison with their counts, over C. The tests and the bench link it; it is no part of the library that a hypervisor links.
+#![tactic(auto)]
+
 ghost use Rattle.std.specs.Prelude.{◌≡◌};
 ghost use Rattle.words.specs.Order.{order_of, compared_bytes};
 ghost use Rattle.symbols.specs.SymbolList.{lookup, compared_entries};

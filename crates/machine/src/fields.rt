@@ -5,7 +5,7 @@ ghost use Rattle.machine.specs.Host.{rule_of, with_field};
 use records::refusal::Reason;
 
 // What a relocation stores.
-#[derive(Drop)]
+#[derive(Clone, Copy)]
 pub enum FieldType {
     // S + A, in 8 bytes.
     Absolute,
@@ -14,7 +14,7 @@ pub enum FieldType {
 }
 
 // A value that a field can take, or why it cannot.
-#[derive(Drop)]
+#[derive(Clone, Copy)]
 pub enum Checked {
     Right,
     Wrong(Reason),

@@ -2,7 +2,7 @@
 use super::processor::Processor;
 
 // The processor; the address and length of the hypervisor's text; the address of the payload's slot.
-#[derive(Drop)]
+#[derive(Clone, Copy)]
 pub struct Host {
     pub processor: Processor,
     pub text: u64,

@@ -8,13 +8,13 @@ ghost use Rattle.machine.specs.X86.{type_of, is_fill_size, no_op, no_ops};
 use super::fields::FieldType;
 use records::payload::{Edit, EditKind};
 
-#[derive(Drop)]
+#[derive(Clone, Copy)]
 pub enum Processor {
     X86_64,
 }
 
 // What a relocation's number asks for.
-#[derive(Drop)]
+#[derive(Clone, Copy)]
 pub enum RelocationType {
     Nothing,
     Stores(FieldType),

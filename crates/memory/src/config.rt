@@ -8,7 +8,7 @@ use machine::processor::{EDIT_MAX, Processor};
 use records::payload::Payload;
 
 // The processor; text and arena by base address, the text's length, the length of the hypervisor's build_id, the number of CPUs.
-#[derive(Drop)]
+#[derive(Clone, Copy)]
 pub struct Config {
     pub processor: Processor,
     pub text: u64,

@@ -27,7 +27,7 @@ use records::payload::Payload;
 use records::refusal::{Place, Reason, Refusal, Verdict};
 
 // A section as it is read: its header, and what kind it is.
-#[derive(Drop)]
+#[derive(Clone, Copy)]
 pub struct SectionEntry {
     pub header: SectionHeader,
     pub kind: Kind,

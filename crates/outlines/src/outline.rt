@@ -9,7 +9,7 @@ use state::state::State;
 use words::bytes::Found;
 
 // `slots` and `edits` are of the loaded payloads: where each is, and how many edits it has. From `action` on it is the job.
-#[derive(Drop)]
+#[derive(Clone, Copy)]
 pub struct Outline {
     pub count: usize,
     pub slots: [u32; Config::SLOTS],

@@ -14,7 +14,7 @@ use records::payload::{BuildId, Payload};
 use records::refusal::{Refusal, Verdict};
 
 // What was read: all empty where the verdict refuses.
-#[derive(Drop)]
+#[derive(Clone, Copy)]
 pub struct Reading {
     pub verdict: Verdict,
     pub count: usize,

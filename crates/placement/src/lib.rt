@@ -19,7 +19,7 @@ use records::payload::Payload;
 use records::refusal::{Place, Reason, Refusal, Verdict};
 
 // Where the sections stand.
-#[derive(Drop)]
+#[derive(Clone, Copy)]
 pub struct Layout {
     // Each section's offset in the slot; 0 for those not placed.
     pub offsets: [u64; Payload::SECTIONS_MAX],
@@ -28,7 +28,7 @@ pub struct Layout {
 }
 
 // What placement decides: all zero where the verdict refuses.
-#[derive(Drop)]
+#[derive(Clone, Copy)]
 pub struct Placement {
     pub verdict: Verdict,
     pub layout: Layout,
@@ -37,7 +37,7 @@ pub struct Placement {
 }
 
 // Where a section starts, and where what is placed ends after it; or that it does not fit.
-#[derive(Drop)]
+#[derive(Clone, Copy)]
 pub enum Step {
     At(u64, u64),
     Over,

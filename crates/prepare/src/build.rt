@@ -14,7 +14,7 @@ use records::payload::{Edit, Payload};
 use records::refusal::{Refusal, Verdict};
 
 // What was built: all empty where the verdict refuses.
-#[derive(Drop)]
+#[derive(Clone, Copy)]
 pub struct Built {
     pub verdict: Verdict,
     pub placed: u64,

@@ -9,7 +9,7 @@ use records::payload::{BuildId, Edit, Payload};
 use records::refusal::{Place, Reason, Refusal, Verdict};
 
 // What was prepared: all empty where the verdict refuses.
-#[derive(Drop)]
+#[derive(Clone, Copy)]
 pub struct Prepared {
     pub verdict: Verdict,
     pub id: BuildId,

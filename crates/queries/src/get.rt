@@ -11,7 +11,7 @@ use state::state::State;
 use words::bytes::Found;
 
 // Status and last result; both 0 where the verdict refuses.
-#[derive(Drop)]
+#[derive(Clone, Copy)]
 pub struct Got {
     pub verdict: Verdict,
     pub status: u32,

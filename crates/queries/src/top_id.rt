@@ -10,7 +10,7 @@ use state::find;
 use state::state::State;
 
 // Where an id stands: 0 for the hypervisor's build_id or 1 for the id store, from where on, and how long.
-#[derive(Drop)]
+#[derive(Clone, Copy)]
 pub struct IdPlace {
     pub buffer: u32,
     pub offset: u32,

@@ -5,13 +5,13 @@ ghost use Rattle.reader.specs.Entries.{first, next_of};
 use elf::Relocation;
 
 // The number of the next entry.
-#[derive(Drop)]
+#[derive(Clone, Copy)]
 pub struct Cursor {
     pub entry: usize,
 }
 
 // The entry at a cursor and the cursor after it, or that no whole entry is left.
-#[derive(Drop)]
+#[derive(Clone, Copy)]
 pub enum Next {
     Entry(Relocation, Cursor),
     End,

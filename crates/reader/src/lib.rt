@@ -8,7 +8,7 @@ use cursor::{Cursor, Next};
 pub mod cursor;
 
 // The section's bytes, and the number of the next entry.
-#[derive(Drop)]
+#[derive(Clone, Copy)]
 pub struct Reader<'a> {
     pub bytes: &'a [u8],
     pub at: usize,

@@ -5,14 +5,14 @@ ghost use Rattle.records.specs.Limits.{name_max, all_limits};
 ghost use Rattle.records.specs.Payload.{no_edit, no_id, empty, named};
 
 // What an edit writes: a jump by this displacement, or no-op instructions.
-#[derive(Drop)]
+#[derive(Clone, Copy)]
 pub enum EditKind {
     Jump(u64),
     Fill,
 }
 
 // One edit of the text: `length` bytes from `offset` on.
-#[derive(Drop)]
+#[derive(Clone, Copy)]
 pub struct Edit {
     pub offset: u32,
     pub length: u32,
@@ -20,14 +20,14 @@ pub struct Edit {
 }
 
 // A build-id: `length` bytes, and zeros after them.
-#[derive(Drop)]
+#[derive(Clone, Copy)]
 pub struct BuildId {
     pub bytes: [u8; Payload::ID_MAX],
     pub length: u32,
 }
 
 // Document 01: "Status: 1 checked, 2 applied." The last result is kept as its magnitude.
-#[derive(Drop)]
+#[derive(Clone, Copy)]
 pub struct Payload {
     pub name: [u8; Payload::NAME_MAX],
     pub name_length: u32,
@@ -41,7 +41,7 @@ pub struct Payload {
 }
 
 // The limits as numbers, to be tied to their definitions.
-#[derive(Drop)]
+#[derive(Clone, Copy)]
 pub struct Limits {
     pub file_min: usize,
     pub file_max: usize,

@@ -5,7 +5,7 @@ ghost use Rattle.records.specs.Verdict.{refusal};
 ghost use Rattle.records.specs.declared.refusal.Verdict.TheVariants.{Refuse};
 
 // The cases of document 01's table "When the loader says no". specs/Refusal.antt gives each its number.
-#[derive(Drop)]
+#[derive(Clone, Copy)]
 pub enum Reason {
     NotLoaded,
     NotListed,
@@ -21,7 +21,7 @@ pub enum Reason {
 }
 
 // Where the fault stands: a section, an entry of a section, a function record, or no place. All count from 0.
-#[derive(Drop)]
+#[derive(Clone, Copy)]
 pub enum Place {
     Nowhere,
     Section(u16),
@@ -29,14 +29,14 @@ pub enum Place {
     Record(u16),
 }
 
-#[derive(Drop)]
+#[derive(Clone, Copy)]
 pub struct Refusal {
     pub reason: Reason,
     pub place: Place,
 }
 
 // What a check says: nothing against it, or why not.
-#[derive(Drop)]
+#[derive(Clone, Copy)]
 pub enum Verdict {
     Pass,
     Refuse(Refusal),

@@ -14,7 +14,7 @@ use machine::processor::RelocationType;
 use records::refusal::Reason;
 
 // A relocation section's number, and where the section that its relocations are made in stands in the slot, with its size.
-#[derive(Drop)]
+#[derive(Clone, Copy)]
 pub struct Area {
     pub section: u16,
     pub start: u64,
@@ -22,7 +22,7 @@ pub struct Area {
 }
 
 // A field of the slot: its offset, its type and the value; nothing to store; or why it is refused.
-#[derive(Drop)]
+#[derive(Clone, Copy)]
 pub enum Field {
     Store(u64, FieldType, u64),
     Skip,

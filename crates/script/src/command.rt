@@ -6,7 +6,7 @@ use super::decimal::Number;
 use super::{decimal, fields, hex};
 
 // The numbers of a start-up: text's base and size, arena's base, CPUs.
-#[derive(Drop)]
+#[derive(Clone, Copy)]
 pub struct Host {
     pub base: u64,
     pub size: usize,
@@ -15,14 +15,14 @@ pub struct Host {
 }
 
 // The numbers of an action.
-#[derive(Drop)]
+#[derive(Clone, Copy)]
 pub struct Request {
     pub action: u32,
     pub time: u32,
 }
 
 // A command with its numbers. Names and hex strings stay in the line, as fields of it.
-#[derive(Drop)]
+#[derive(Clone, Copy)]
 pub enum Command {
     Start(Host),
     Upload,

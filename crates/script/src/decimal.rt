@@ -6,7 +6,7 @@ ghost use Rattle.script.specs.Fields.{field_of};
 use super::fields;
 
 // A number, or what is none or too large.
-#[derive(Drop)]
+#[derive(Clone, Copy)]
 pub enum Number {
     Is(u64),
     Unreadable,

@@ -4,7 +4,7 @@ ghost use Rattle.words.specs.Splice.{part};
 ghost use Rattle.script.specs.Fields.{fields_of, field_of, is_command, is_plain};
 
 // The bytes of a line from `from` up to `to`.
-#[derive(Drop)]
+#[derive(Clone, Copy)]
 pub struct Span {
     pub from: usize,
     pub to: usize,

@@ -8,7 +8,7 @@ use records::payload::Payload;
 use records::refusal::{Place, Reason, Verdict};
 
 // The one job: action (0 where there is none), its payload's slot, the CPUs held, the ticks left, the work steps done.
-#[derive(Drop)]
+#[derive(Clone, Copy)]
 pub struct Job {
     pub action: u32,
     pub slot: u32,
@@ -18,7 +18,7 @@ pub struct Job {
 }
 
 // `payloads` is in upload order, `stack` in the order of application and by slot.
-#[derive(Drop)]
+#[derive(Clone, Copy)]
 pub struct State {
     pub config: Config,
     pub version: u32,
@@ -30,7 +30,7 @@ pub struct State {
 }
 
 // What a call answers, and the state after it.
-#[derive(Drop)]
+#[derive(Clone, Copy)]
 pub struct Called {
     pub verdict: Verdict,
     pub state: State,

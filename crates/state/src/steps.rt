@@ -2,7 +2,7 @@
 use records::payload::Edit;
 
 // The edit of a payload's record: laid, or taken off.
-#[derive(Drop)]
+#[derive(Clone, Copy)]
 pub struct Step {
     pub lays: bool,
     pub slot: u32,

@@ -17,7 +17,7 @@ use state::steps::Step;
 use words::bytes::Found;
 
 // The record whose edit comes next: laid, or taken off; the place in the list of its payload, and its number.
-#[derive(Drop)]
+#[derive(Clone, Copy)]
 pub struct Choice {
     pub lays: bool,
     pub place: usize,

@@ -1,4 +1,6 @@
 // The symbol list of document 01: valid or refused, and lookup by name. Any bytes get an answer, and the list is never copied.
+#![tactic(auto)]
+
 ghost use Rattle.std.specs.Prelude.{◌≡◌, [], ◌+◌, ◌≤◌, length};
 ghost use Rattle.records.specs.Verdict.{must};
 ghost use Rattle.records.specs.declared.refusal.Place.TheVariants.{Nowhere};
@@ -9,14 +11,14 @@ use records::refusal::{Place, Reason, Verdict};
 use words::bytes;
 
 // The address of a name, or that the list does not have it.
-#[derive(Drop)]
+#[derive(Clone, Copy)]
 pub enum Found {
     Address(u64),
     Nothing,
 }
 
 // What was found, and how many entries were compared with the name for it.
-#[derive(Drop)]
+#[derive(Clone, Copy)]
 pub struct Search {
     pub found: Found,
     pub compared: usize,
@@ -26,7 +28,7 @@ pub struct Search {
 pub const NAME_MAX: usize = 127;
 
 // An entry with a name of this many bytes, or no entry.
-#[derive(Drop)]
+#[derive(Clone, Copy)]
 enum Entry {
     Whole(usize),
     Broken,

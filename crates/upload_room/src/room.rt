@@ -13,7 +13,7 @@ use state::state::State;
 use words::bytes::Found;
 
 // The slot for a payload; 0 where the verdict refuses.
-#[derive(Drop)]
+#[derive(Clone, Copy)]
 pub struct Room {
     pub verdict: Verdict,
     pub slot: usize,

@@ -1,14 +1,13 @@
 -- What a callee answered, tested: a test as `if !test(..)`, and a number as `if number(..) != k`, where the branch was taken and where it was left;
 -- and tests joined by `&&`.
-use Rattle.std.proofs.Common.{◌≡◌, ℕ, Bool, true, false, not, ◌&&◌, eqb, sym, refl, ◌∙◌, eq-eqb, ne_eqb}
+use Rattle.std.proofs.Common.{◌≡◌, ℕ, Bool, true, false, ◌&&◌, eqb, sym, refl, ◌∙◌, eq-eqb, ne_eqb}
 use mathlib.Core.Bool.{and-eq-true_iff}
-use borrow.Author.Tests.{not-true, not-false}
 
-pub refuted : {r b : Bool} → r ≡ b → not r ≡ true → b ≡ false
-refuted {r} {b} e h = sym e ∙ not-true r h
+pub refuted : {r b : Bool} → r ≡ b → r ≡ false → b ≡ false
+refuted e h = sym e ∙ h
 
-pub held : {r b : Bool} → r ≡ b → not r ≡ false → b ≡ true
-held {r} {b} e h = sym e ∙ not-false r h
+pub held : {r b : Bool} → r ≡ b → r ≡ true → b ≡ true
+held e h = sym e ∙ h
 
 pub differs : {r x k : ℕ} → r ≡ x → (r ≡ k → ⊥) → eqb x k ≡ false
 differs {r} {x} {k} e h = ne_eqb x k λ same. h (e ∙ same)

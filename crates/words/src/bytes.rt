@@ -5,7 +5,7 @@ ghost use Rattle.words.specs.Order.{equal, number_order, comparison, all_zero};
 ghost use Rattle.words.specs.Name.{zero_from};
 
 // How one byte string stands to another.
-#[derive(Drop)]
+#[derive(Clone, Copy)]
 pub enum Order {
     Less,
     Same,
@@ -13,14 +13,14 @@ pub enum Order {
 }
 
 // How one stands to the other, and how many bytes of each were compared for it.
-#[derive(Drop)]
+#[derive(Clone, Copy)]
 pub struct Comparison {
     pub order: Order,
     pub compared: usize,
 }
 
 // Where a byte was found.
-#[derive(Drop)]
+#[derive(Clone, Copy)]
 pub enum Found {
     At(usize),
     Nothing,

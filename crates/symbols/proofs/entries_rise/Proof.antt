@@ -11,100 +11,67 @@ use Rattle.symbols.proofs.Laws.{Read, read-broken, read-entry, entries-turn, ent
 use Rattle.symbols.proofs.entries_rise.Statement.{statement}
 use Rattle.symbols.proofs.entries_rise.Tie as tie
 
-abbrev invariant-loop : tie.invariant-loop
-invariant-loop list count last-start₀ last-end₀ at₀ i₀ last-start last_end at i =
-    (i ≤ count)
+abbrev invariant-loop-i : tie.invariant-loop-i
+invariant-loop-i list count last-start₀ last-end₀ at₀ i₀ last-start last_end at i = (i ≤ count)
     × (last-start ≤ last_end)
     × (last_end ≤ length list)
     × (entries_from list count 7 [] ≡ entries_from list (count - i) at (take (last_end - last-start) (drop last-start list)))
 
-abbrev decreases-loop : tie.decreases-loop
-decreases-loop list count last-start₀ last-end₀ at₀ i₀ last-start last_end at i = count - i
+abbrev decreases-loop-i : tie.decreases-loop-i
+decreases-loop-i list count last-start₀ last-end₀ at₀ i₀ last-start last_end at i = count - i
 
-loop-holds : tie.Need-loop-init invariant-loop decreases-loop
-loop-holds c =
-    let all : c.before.args.count - 0 ≡ c.before.args.count = omega arith in
+loop-i-init : tie.Need-loop-i-init invariant-loop-i decreases-loop-i
+loop-i-init c = let all : c.args.count - 0 ≡ c.args.count = omega arith in
     (omega arith, omega arith, omega arith, rw all)
 
 -- the list, and where the turn's entry begins
-module _ (c : tie.In-loop invariant-loop decreases-loop) where
+module _ (c : tie.In-loop-i invariant-loop-i decreases-loop-i) where
   abbrev list : List ℕ
-  list = c.before.before.before.args.list.now
+  list = c.args.list.now
 
   abbrev at : ℕ
-  at = c.before.loop.at
+  at = c.loop-i.at
 
-returns : tie.Need-returns invariant-loop decreases-loop
-returns c =
-    let l = c.before.before.before in
-    let broken = read-broken (entry_at (list l) (at l)) _ _ c.before.before.entry_at.ensures c.enum_told.given.1 in
-    sym (l.before.loop.invariant.3 ∙ entries-turn _ _ _ _ _ l.loop-test.true ∙ rw broken)
+returns-in_default : tie.Need-returns-in_default invariant-loop-i decreases-loop-i
+returns-in_default c = let broken = read-broken (entry_at (list c.before.before) (at c.before.before)) _ _ c.entry_at.ensures c.in_default.is in
+    sym (c.loop-i.invariant.3 ∙ entries-turn _ _ _ _ _ c.loop-i-test.true ∙ rw broken)
 
 -- what `entry_at` found
 read :
-    (c : tie.After-known-told invariant-loop decreases-loop) →
-    let l = c.before.before.before.before in
-    Read (entry_at (list l) (at l)) (list l) (at l) c.before.name_length.given.0.0
-read c = read-entry _ _ c.before.before.before.entry_at.ensures c.before.name_length.given.1
+    (c : tie.In-Whole invariant-loop-i decreases-loop-i) →
+    Read (entry_at (list c.before.before) (at c.before.before)) (list c.before.before) (at c.before.before) c.in-Whole.name_length
+read c = read-entry _ _ c.entry_at.ensures c.in-Whole.is
 
-add_start : tie.Need-overflow-add-start invariant-loop decreases-loop
-add_start c = omega (arith, (read c).inside)
+overflow_add-start : tie.Need-overflow_add-start invariant-loop-i decreases-loop-i
+overflow_add-start c = omega (arith, (read c).inside)
 
-add-end : tie.Need-overflow-add-end invariant-loop decreases-loop
-add-end c = omega (arith, (read c).inside)
+overflow_add-end : tie.Need-overflow_add-end invariant-loop-i decreases-loop-i
+overflow_add-end c = omega (arith, (read c).inside)
 
-part-rises-end-2 : tie.Need-slice-bounds-rises-end-2 invariant-loop decreases-loop
-part-rises-end-2 c = omega (arith, (read c.before).inside)
+slice_bounds-rises-end-in-loop-i : tie.Need-slice_bounds-rises-end-in-loop-i invariant-loop-i decreases-loop-i
+slice_bounds-rises-end-in-loop-i c = omega (arith, (read c.before).inside)
 
-returns-2 : tie.Need-returns-2 invariant-loop decreases-loop
-returns-2 c =
-    let k = c.before.before.before.before in
-    let l = k.before.before.before.before in
-    let rises = rw (read k).name at c.before.rises.ensures in
+returns-then-not-rises : tie.Need-returns-then-not-rises invariant-loop-i decreases-loop-i
+returns-then-not-rises c = let rises = rw (read c.before.before.before.before).name at c.rises.ensures in
     sym
-    (l.before.loop.invariant.3
-    ∙ entries-turn _ _ _ _ _ l.loop-test.true
-    ∙ rw ((read k).holds, ← rises, not-true c.before.rises.result c.if1.true))
+    (c.loop-i.invariant.3
+    ∙ entries-turn _ _ _ _ _ c.loop-i-test.true
+    ∙ rw ((read c.before.before.before.before).holds, ← rises, c.if-not-rises.true))
 
-loop-again : tie.Need-loop-preserved invariant-loop decreases-loop
-loop-again c =
-    let k = c.before.before.before.before in
-    let l = k.before.before.before.before in
-    let inside = (read k).inside in
-    let rises = rw (read k).name at c.before.rises.ensures in (
+loop-i-preserved : tie.Need-loop-i-preserved invariant-loop-i decreases-loop-i
+loop-i-preserved c = let inside = (read c.before.before.before.before).inside in
+    let rises = rw (read c.before.before.before.before).name at c.rises.ensures in (
       omega arith,
       omega arith,
       omega arith,
-      l.before.loop.invariant.3
-          ∙ entries-turn _ _ _ _ _ l.loop-test.true
-          ∙ rw ((read k).holds, ← rises, not-false c.before.rises.result c.if1.false, (read k).long, (read k).name),
+      c.loop-i.invariant.3
+          ∙ entries-turn _ _ _ _ _ c.loop-i-test.true
+          ∙ rw ((read c.before.before.before.before).holds, ← rises, c.if-not-rises.false, (read c.before.before.before.before).long, (read c.before.before.before.before).name),
     )
 
-returns-3 : tie.Need-returns-3 invariant-loop decreases-loop
-returns-3 c = sym (c.before.loop.invariant.3 ∙ entries-end _ _ _ _ _ c.loop-test.false)
+returns : tie.Need-returns invariant-loop-i decreases-loop-i
+returns c = sym (c.loop-i.invariant.3 ∙ entries-end _ _ _ _ _ c.loop-i-test.false)
 
-pub entries-rise-spec : {M : Type 1} → statement M
-entries-rise-spec =
-    tie.close
-    (tie.spec
-    invariant-loop
-    decreases-loop
-    loop-holds
-    (λ c κs. search rules)
-    (λ c. search rules)
-    (λ c. search rules)
-    returns
-    add_start
-    add-end
-    (λ c. omega arith)
-    (λ c. omega arith)
-    (λ c. omega arith)
-    (λ c. omega arith)
-    (λ c. omega arith)
-    part-rises-end-2
-    (λ c κs. search rules)
-    returns-2
-    (λ c. omega arith)
-    (λ c. omega arith)
-    loop-again
-    returns-3)
+pub entries_rise_spec : {M : Type 1} → statement M
+entries_rise_spec =
+    tie.close (tie.spec invariant-loop-i decreases-loop-i loop-i-init (λ c κs. search rules) (λ c. search rules) (λ c. search rules) returns-in_default overflow_add-start overflow_add-end (λ c. omega arith) (λ c. omega arith) (λ c. omega arith) (λ c. omega arith) (λ c. omega arith) slice_bounds-rises-end-in-loop-i (λ c κs. search rules) returns-then-not-rises (λ c. omega arith) (λ c. omega arith) loop-i-preserved returns)

@@ -22,112 +22,79 @@ use Rattle.symbols.proofs.Laws.{
 use Rattle.symbols.proofs.find_from.Statement.{statement}
 use Rattle.symbols.proofs.find_from.Tie as tie
 
-abbrev invariant-loop : tie.invariant-loop
-invariant-loop list name count at₀ compared₀ at compared =
-    (compared ≤ count) × (find_from list name count 7 ≡ after list name count compared at)
+abbrev invariant-loop-compared : tie.invariant-loop-compared
+invariant-loop-compared list name count at₀ compared₀ at compared = (compared ≤ count) × (find_from list name count 7 ≡ after list name count compared at)
 
-abbrev decreases-loop : tie.decreases-loop
-decreases-loop list name count at₀ compared₀ at compared = count - compared
+abbrev decreases-loop-compared : tie.decreases-loop-compared
+decreases-loop-compared list name count at₀ compared₀ at compared = count - compared
 
-loop-holds : tie.Need-loop-init invariant-loop decreases-loop
-loop-holds c = (omega arith, search-begin _ _ _)
+loop-compared-init : tie.Need-loop-compared-init invariant-loop-compared decreases-loop-compared
+loop-compared-init c = (omega arith, search-begin _ _ _)
 
 -- the list, the name, and where the turn's entry begins
-module _ (c : tie.In-loop invariant-loop decreases-loop) where
+module _ (c : tie.In-loop-compared invariant-loop-compared decreases-loop-compared) where
   abbrev list : List ℕ
-  list = c.before.before.before.before.args.list.now
+  list = c.args.list.now
 
   abbrev name : List ℕ
-  name = c.before.before.before.before.args.name.now
+  name = c.args.name.now
 
   abbrev at : ℕ
-  at = c.before.loop.at
+  at = c.loop-compared.at
 
-returns : tie.Need-returns invariant-loop decreases-loop
-returns c =
-    let l = c.before.before.before in
-    let broken = read-broken (whole_at (list l) (at l)) _ _ c.before.before.whole-at.ensures c.enum_told.given.1 in
-    sym (l.before.loop.invariant.1 ∙ search-broken _ _ _ _ _ l.loop-test.true broken)
+returns-in_default : tie.Need-returns-in_default invariant-loop-compared decreases-loop-compared
+returns-in_default c = let broken = read-broken (whole_at (list c.before.before) (at c.before.before)) _ _ c.whole_at.ensures c.in_default.is in
+    sym (c.loop-compared.invariant.1 ∙ search-broken _ _ _ _ _ c.loop-compared-test.true broken)
 
 -- what `whole_at` found
 read :
-    (c : tie.After-known-told invariant-loop decreases-loop) →
-    let l = c.before.before.before.before in
-    Read (whole_at (list l) (at l)) (list l) (at l) c.before.name_length.given.0.0
-read c = read_whole _ _ c.before.before.before.whole-at.ensures c.before.name_length.given.1
+    (c : tie.In-Whole invariant-loop-compared decreases-loop-compared) →
+    Read (whole_at (list c.before.before) (at c.before.before)) (list c.before.before) (at c.before.before) c.in-Whole.name_length
+read c = read_whole _ _ c.whole_at.ensures c.in-Whole.is
 
 -- how the entry's name stands to the name sought
 order :
-    (c : tie.After-compare invariant-loop decreases-loop) →
-    let l = c.before.before.before.before.before.before in
-    c.compare.result.order ≡ order_of (name_at (list l) (at l)) (name l)
-order c = compared-order _ _ (rw (read c.before.before).name at c.compare.ensures)
+    (c : tie.After-compare-comparison invariant-loop-compared decreases-loop-compared) →
+    c.compare-comparison.result.order ≡ order_of (name_at (list c.before.before.before.before) (at c.before.before.before.before)) (name c.before.before.before.before)
+order c = compared-order _ _ (rw (read c.before.before).name at c.compare-comparison.ensures)
 
 -- whether it is smaller
 is-less :
-    (c : tie.After-smaller invariant-loop decreases-loop) →
-    let l = c.before.before.before.before.before.before.before in
-    c.smaller.result ≡ less (name_at (list l) (at l)) (name l)
+    (c : tie.After-smaller invariant-loop-compared decreases-loop-compared) →
+    c.smaller.result ≡ less (name_at (list c.before.before.before.before.before) (at c.before.before.before.before.before)) (name c.before.before.before.before.before)
 unfolding less
 is-less c = rw (← order c.before) c.smaller.ensures
 
-add_start : tie.Need-overflow-add-start invariant-loop decreases-loop
-add_start c = omega (arith, (read c).inside)
+overflow_add-start : tie.Need-overflow_add-start invariant-loop-compared decreases-loop-compared
+overflow_add-start c = omega (arith, (read c).inside)
 
-add-end : tie.Need-overflow-add-end invariant-loop decreases-loop
-add-end c = omega (arith, (read c).inside)
+overflow_add-end : tie.Need-overflow_add-end invariant-loop-compared decreases-loop-compared
+overflow_add-end c = omega (arith, (read c).inside)
 
-part-compare-end : tie.Need-slice-bounds-compare-end invariant-loop decreases-loop
-part-compare-end c = omega (arith, (read c).inside)
+slice_bounds-compare-end : tie.Need-slice_bounds-compare-end invariant-loop-compared decreases-loop-compared
+slice_bounds-compare-end c = omega (arith, (read c).inside)
 
-found-at-requires : tie.Need-found-at-requires invariant-loop decreases-loop
-found-at-requires c κs = omega (arith, (read c.before.before.before.before).inside)
+found_at-requires : tie.Need-found_at-requires invariant-loop-compared decreases-loop-compared
+found_at-requires c κs = omega (arith, (read c.before.before.before.before).inside)
 
-returns-2 : tie.Need-returns-2 invariant-loop decreases-loop
-returns-2 c =
-    let k = c.before.before.before.before.before in
-    let l = k.before.before.before.before in
-    let found = rw (order c.before.before.before, ← equal-order (name_at (list l) (at l)) (name l)) at c.found_at.ensures in
+returns-then-not-smaller : tie.Need-returns-then-not-smaller invariant-loop-compared decreases-loop-compared
+returns-then-not-smaller c = let found = rw (order c.before.before.before, ← equal-order (name_at (list c.before.before.before.before.before.before.before) (at c.before.before.before.before.before.before.before)) (name c.before.before.before.before.before.before.before)) at c.found_at.ensures in
     sym
-    (l.before.loop.invariant.1
-    ∙ search-stop _ _ _ _ _ l.loop-test.true (read k).holds (refuted (is-less c.before.before) c.before.if1.true)
+    (c.loop-compared.invariant.1
+    ∙ search-stop _ _ _ _ _ c.loop-compared-test.true (read c.before.before.before.before.before).holds (refuted (is-less c.before.before) c.if-not-smaller.true)
     ∙ rw (← found))
 
-loop-again : tie.Need-loop-preserved invariant-loop decreases-loop
-loop-again c =
-    let k = c.before.before.before.before in
-    let l = k.before.before.before.before in (
-      omega arith,
-      l.before.loop.invariant.1
-          ∙ search-further _ _ _ _ _ l.loop-test.true (read k).holds (held (is-less c.before) c.if1.false)
-          ∙ rw (read k).long,
-    )
+loop-compared-preserved : tie.Need-loop-compared-preserved invariant-loop-compared decreases-loop-compared
+loop-compared-preserved c = (
+  omega arith,
+  c.loop-compared.invariant.1
+      ∙ search-further _ _ _ _ _ c.loop-compared-test.true (read c.before.before.before.before).holds (held (is-less c.before) c.if-not-smaller.false)
+      ∙ rw (read c.before.before.before.before).long,
+)
 
-returns-3 : tie.Need-returns-3 invariant-loop decreases-loop
-returns-3 c = sym (c.before.loop.invariant.1 ∙ search-end _ _ _ _ _ c.loop-test.false)
+returns : tie.Need-returns invariant-loop-compared decreases-loop-compared
+returns c = sym (c.loop-compared.invariant.1 ∙ search-end _ _ _ _ _ c.loop-compared-test.false)
 
-pub find-from-spec : {M : Type 1} → statement M
-find-from-spec =
-    tie.close
-    (tie.spec
-    invariant-loop
-    decreases-loop
-    loop-holds
-    (λ c κs. search rules)
-    (λ c. search rules)
-    (λ c. search rules)
-    returns
-    add_start
-    add-end
-    (λ c. omega arith)
-    (λ c. omega arith)
-    part-compare-end
-    (λ c κs. search rules)
-    (λ c κs. search rules)
-    found-at-requires
-    (λ c. omega arith)
-    returns-2
-    (λ c. omega arith)
-    (λ c. omega arith)
-    loop-again
-    returns-3)
+pub find_from_spec : {M : Type 1} → statement M
+find_from_spec =
+    tie.close (tie.spec invariant-loop-compared decreases-loop-compared loop-compared-init (λ c κs. search rules) (λ c. search rules) (λ c. search rules) returns-in_default overflow_add-start overflow_add-end (λ c. omega arith) (λ c. omega arith) slice_bounds-compare-end (λ c κs. search rules) (λ c κs. search rules) found_at-requires (λ c. omega arith) returns-then-not-smaller (λ c. omega arith) (λ c. omega arith) loop-compared-preserved returns)

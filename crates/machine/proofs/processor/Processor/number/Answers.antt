@@ -1,0 +1,6 @@
+-- `Processor::number` meets its contract.
+use Rattle.machine.proofs.Only.{only}
+use Rattle.machine.proofs.processor.Processor.number.Goals as goal
+
+pub returns : goal.returns
+returns c = rw (only c.args.self)

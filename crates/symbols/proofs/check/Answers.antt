@@ -1,0 +1,8 @@
+-- `check` meets its contract: it passes exactly where `is_valid` holds.
+use Rattle.symbols.proofs.check.Goals as goal
+
+pub returns-then-is_valid : goal.returns-then-is_valid
+returns-then-is_valid c = rw (← c.is_valid.ensures, c.if-is_valid.true)
+
+pub returns : goal.returns
+returns c = rw (← c.is_valid.ensures, c.if-is_valid.false) c.refused.ensures
