@@ -1,4 +1,6 @@
 // The file's size and header.
+#![tactic(auto)]
+
 ghost use Rattle.std.specs.Prelude.{◌≡◌};
 ghost use Rattle.machine.specs.Host.{machine_of};
 ghost use Rattle.header.specs.Header.{fields_ok, header_rules};
