@@ -4,7 +4,7 @@ use mathlib.Core.Path.{◌≡◌}
 use mathlib.Core.Bool.{true, ◌&&◌}
 use native.Mathlib.Omega.{arith}
 use borrow.Author.Rules.{rules}
-use borrow.Author.Tests.{eq-eqb, ne_eqb, not-true, not-false}
+use borrow.Author.Tests.{eq-eqb, ne_eqb}
 use Rattle.words.proofs.Tests.{held, refuted}
 use Rattle.functions.specs.Edits.{form_ok, in_text, addresses_ok, fill_ok, jump_edit, edit_from}
 use Rattle.functions.specs.Patching.{Patching, patching}

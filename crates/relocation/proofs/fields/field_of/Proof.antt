@@ -78,18 +78,18 @@ by-symbol :
     (c : tie.After-value_of) (l : Linking) →
     let a = (start c.before.before.before.before.before.before.before.before.before).args in
     Given l a.host a.cells.now a.strings.now a.list.now →
-    field_of (host_machine a.host) l a.area a.r ≡ with_symbol l a.area a.r (field c.before.before.before.before.before.before.before.before.before) c.value_of_lem.result
+    field_of (host_machine a.host) l a.area a.r ≡ with_symbol l a.area a.r (field c.before.before.before.before.before.before.before.before.before) c.value_of.result
 unfolding field_of field_ok
 by-symbol c l g =
     rw (
       stores c.before.before.before.before.before.before.before.before.before,
       held (inside c.before.before.before.before.before.before.before) c.if-not-lies_within.false,
       held (aligned c.before.before.before l g.address) c.if-not-is_aligned.false,
-      (c.value_of_lem.ensures l g.sought).0,
+      (c.value_of.ensures l g.sought).0,
     )
 
 returns-in-Refused : tie.Need-returns-in-Refused
-returns-in-Refused c = λ l g. (sym (by-symbol c.before.before.before l g ∙ rw c.in-Refused.is), (c.value_of_lem.ensures l g.sought).1)
+returns-in-Refused c = λ l g. (sym (by-symbol c.before.before.before l g ∙ rw c.in-Refused.is), (c.value_of.ensures l g.sought).1)
 
 overflow_add-area : tie.Need-overflow_add-area
 overflow_add-area c = omega (arith, leb-true, held (inside c.before.before.before.before.before.before.before.before.before.before.before.before) c.if-not-lies_within.false, (start c.before.before.before.before.before.before.before.before.before.before.before.before.before.before).requires.0)
@@ -98,7 +98,7 @@ returns-in-Value : tie.Need-returns-in-Value
 returns-in-Value c = λ l g. (
   rw (c.stored_field.ensures, c.value.ensures, placed c.before.before.before.before.before.before.before.before.before.before.before l g.address)
       (sym (by-symbol c.before.before.before.before.before.before.before l g ∙ rw c.in-Value.is)),
-  (c.value_of_lem.ensures l g.sought).1,
+  (c.value_of.ensures l g.sought).1,
 )
 
 pub field_of_spec : {M : Type 1} → statement M
