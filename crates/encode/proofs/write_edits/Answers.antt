@@ -13,7 +13,7 @@ use Rattle.encode.specs.Encode.{entry_size, row_of, rows}
 use Rattle.records.proofs.Edits.{copied}
 use Rattle.encode.proofs.Laws.{length-row, row-edit, row-none, row_laid, all_laid}
 use Rattle.encode.proofs.write_edits.Goals as goal
-use Rattle.encode.proofs.write_edits.Goals.{Joined-r-count}
+use Rattle.encode.proofs.write_edits.Goals.{Joined-r-count, then-r-count, else-r-count}
 
 pub loop-r-init : goal.loop-r-init
 unfolding rows
@@ -38,10 +38,10 @@ laid c =
     let r = c.loop-r.r in
     let within : r < length edits = omega arith in
     let same = sym (copied edits r within) in
-    ⊎_elim
-    (λ w. w.6 ∙ w.3.ensures ∙ rw (same, row-edit fitting r w.0.taken))
-    (λ w. w.5 ∙ w.2.ensures ∙ rw (row-none fitting r w.0.left))
-    c.if-r-count.branch
+    elim c.if-r-count.branch [
+      | then-r-count w ↦ w.buffer-is ∙ w.write_entry.ensures ∙ rw (same, row-edit fitting r w.if-r-count.true)
+      | else-r-count w ↦ w.buffer-is ∙ w.fill.ensures ∙ rw (row-none fitting r w.if-r-count.false)
+    ]
 
 pub loop-r-preserved : goal.loop-r-preserved
 loop-r-preserved c = let a = c.args in

@@ -37,54 +37,44 @@ module _ (s : tie.Start) where
       Prepares aim file-of slot_of (outcome x slot_of)
   refused e f = prepares aim file-of slot_of (ap (λ (x : Prepared). outcome x slot_of) e ∙ sym f)
 
-returns : tie.Need-returns
-returns c =
-    let s = c.before.before.before.before.before in
-    refused s c.refuse.ensures (prepared-by _ _ _ {sizes = false} (rw (ne_eqb _ _ c.before.if1.true)) refl refl)
+returns-then-image-ne-PLACED_MAX : tie.Need-returns-then-image-ne-PLACED_MAX
+returns-then-image-ne-PLACED_MAX c = refused c.before.before.before.before.before c.refuse.ensures (prepared-by _ _ _ {sizes = false} (rw (ne_eqb _ _ c.if-image-ne-PLACED_MAX.true)) refl refl)
 
-returns-2 : tie.Need-returns-2
-returns-2 c =
-    let s = c.before.before.before.before.before.before.before in
-    refused s c.refuse2.ensures
-    (prepared-by _ _ _ {sizes = false} (rw (eq-eqb _ _ c.before.before.before.if1.false, lt-leb _ _ c.before.if2.true)) refl refl)
+returns-then-host-gt-TEXT_MAX : tie.Need-returns-then-host-gt-TEXT_MAX
+returns-then-host-gt-TEXT_MAX c = refused c.before.before.before.before.before.before.before c.refuse-then-host-gt-TEXT_MAX.ensures
+    (prepared-by _ _ _ {sizes = false} (rw (eq-eqb _ _ c.if-image-ne-PLACED_MAX.false, lt-leb _ _ c.if-host-gt-TEXT_MAX.true)) refl refl)
 
 -- where the sizes are right
-module _ (c : tie.Else2) where
+module _ (c : tie.Else-host-gt-TEXT_MAX) where
   abbrev begun : tie.Start
   begun = c.before.before.before.before.before.before
 
   sizes : sizes_ok (aim begun) (slot_of begun) ≡ true
-  sizes = rw (eq-eqb _ _ c.before.before.if1.false, le-leb _ _ c.if2.false)
+  sizes = rw (eq-eqb _ _ c.if-image-ne-PLACED_MAX.false, le-leb _ _ c.if-host-gt-TEXT_MAX.false)
 
-returns-3 : tie.Need-returns-3
-returns-3 c =
-    let reading = c.before.before.before.before in
-    let right = reading.before in
-    let told = read_told _ _ reading.read.ensures c.before.before.read-verdict.given.1 in
-    refused (begun right) c.refuse3.ensures (prepared-by _ _ _ (sizes right) told refl)
+returns-in-Refuse : tie.Need-returns-in-Refuse
+returns-in-Refuse c = let told = read_told _ _ c.read-reading.ensures c.in-Refuse.is in
+    refused (begun c.before.before.before) c.refuse-in-Refuse.ensures (prepared-by _ _ _ (sizes c.before.before.before) told refl)
 
 -- where the file is read
-module _ (c : tie.After-enum-told) where
-  abbrev right : tie.Else2
-  right = c.before.before.before
+module _ (c : tie.In_default) where
+  abbrev right : tie.Else-host-gt-TEXT_MAX
+  right = c.before.before
 
-  ready : Ready (host_machine (begun right).args.host) (file-of (begun right)) c.before.before.read.result
-  ready = is-ready _ _ c.before.before.read.ensures c.enum_told.given.1
+  ready : Ready (host_machine (begun right).args.host) (file-of (begun right)) c.read-reading.result
+  ready = is-ready _ _ c.read-reading.ensures c.in_default.is
 
-build-requires : tie.Need-build-requires
-build-requires c κs = (ready c.before, omega (arith, (right c.before).if2.left), no_bytes)
+build-built-requires : tie.Need-build-built-requires
+build-built-requires c κs = (ready c.before, omega (arith, (right c.before).if2.left), no_bytes)
 
-returns-4 : tie.Need-returns-4
-returns-4 c =
-    let building = c.before.before.before.before.before in
-    let read = building.before.before in
-    let told = build-told _ _ building.build.ensures c.before.before.built-verdict.given.1 in
-    refused (begun (right read)) c.refuse4.ensures (prepared-by _ _ _ (sizes (right read)) (ready read).passes told)
+returns-in-Refuse-built_verdict : tie.Need-returns-in-Refuse-built_verdict
+returns-in-Refuse-built_verdict c = let told = build-told _ _ c.build-built.ensures c.in-Refuse-built_verdict.is in
+    refused (begun (right c.before.before.before.before.before)) c.refuse-in-Refuse-built_verdict.ensures (prepared-by _ _ _ (sizes (right c.before.before.before.before.before)) (ready c.before.before.before.before.before).passes told)
 
 -- where all is built
-module _ (c : tie.After-enum-told2) where
-  abbrev building : tie.After-build
-  building = c.before.before.before
+module _ (c : tie.In_default-built_verdict) where
+  abbrev building : tie.After-build-built
+  building = c.before.before
 
   abbrev read : tie.After-enum-told
   read = building.before.before
@@ -93,10 +83,10 @@ module _ (c : tie.After-enum-told2) where
   start = begun (right read)
 
   built-rules : build_rules (aim start) (file-of start) ≡ Pass
-  built-rules = build-told _ _ building.build.ensures c.enum-told2.given.1
+  built-rules = build-told _ _ building.build.ensures c.in_default-built_verdict.is
 
   built : built_slot building.build.result building.build.last.0 ≡ accepted_built (aim start) (file-of start)
-  built = built-all _ _ building.build.ensures c.enum-told2.given.1
+  built = built-all _ _ building.build.ensures c.in_default-built_verdict.is
 
   slot-length : length building.build.last.0 ≡ length (slot_of start)
   slot-length =
@@ -107,36 +97,14 @@ module _ (c : tie.After-enum-told2) where
 copy-requires : tie.Need-copy-requires
 copy-requires c κs = omega (arith, slot-length c.before.before)
 
-returns-5 : tie.Need-returns-5
-returns-5 c =
-    let done = c.before.before.before.before.before.before.before.before in
-    let s = start done in
-    let here = read done in
+returns : tie.Need-returns
+returns c = let s = start c.before.before.before.before.before.before.before.before in
+    let here = read c.before.before.before.before.before.before.before.before in
     prepares _ _ _
-    (accepted (aim s) (file-of s) (slot_of s) (ready here).read (built done)
-    (c.before.before.before.before.before.copy.ensures ∙ splice-whole (slot_of s) _ (slot-length done))
-    ∙ sym (prepared-by _ _ _ (sizes (right here)) (ready here).passes (built-rules done)))
+    (accepted (aim s) (file-of s) (slot_of s) (ready here).read (built c.before.before.before.before.before.before.before.before)
+    (c.copy.ensures ∙ splice-whole (slot_of s) _ (slot-length c.before.before.before.before.before.before.before.before))
+    ∙ sym (prepared-by _ _ _ (sizes (right here)) (ready here).passes (built-rules c.before.before.before.before.before.before.before.before)))
 
-pub prepare-spec : {M : Type 1} → statement M
-prepare-spec =
-    tie.close
-    (tie.spec
-    (λ c κs. search rules)
-    returns
-    (λ c κs. search rules)
-    returns-2
-    (λ c κs. search rules)
-    (λ c. search rules)
-    (λ c κs. search rules)
-    returns-3
-    (λ c. search rules)
-    (λ c. search rules)
-    build-requires
-    (λ c. search rules)
-    (λ c κs. search rules)
-    returns-4
-    (λ c. search rules)
-    (λ c. search rules)
-    copy-requires
-    (λ c. search rules)
-    returns-5)
+pub prepare_spec : {M : Type 1} → statement M
+prepare_spec =
+    tie.close (tie.spec (λ c κs. search rules) returns-then-image-ne-PLACED_MAX (λ c κs. search rules) returns-then-host-gt-TEXT_MAX (λ c κs. search rules) (λ c. search rules) (λ c κs. search rules) returns-in-Refuse (λ c. search rules) (λ c. search rules) build-built-requires (λ c. search rules) (λ c κs. search rules) returns-in-Refuse-built_verdict (λ c. search rules) (λ c. search rules) copy-requires (λ c. search rules) returns)
