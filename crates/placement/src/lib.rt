@@ -1,4 +1,6 @@
 // Placement: where each placed section stands in the slot, and the slot's bytes before relocation.
+#![tactic(auto)]
+
 ghost use Rattle.std.specs.Prelude.{◌≡◌, ◌+◌, ◌≤◌, length};
 ghost use Rattle.records.specs.Limits.{sections_max, placed_max};
 ghost use Rattle.placement.specs.Placement.{
