@@ -46,6 +46,7 @@ pub enum Step {
 }
 
 // Whether the section goes into the slot.
+#[tactic(auto, unfolding(crate::specs::Placement::is_placed))]
 pub fn is_placed(s: SectionEntry) -> bool
     ensures { result ≡ is_placed s }
 {

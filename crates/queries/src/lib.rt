@@ -1,3 +1,3 @@
-// The calls that change nothing: a payload's status, and the top build-id.
+// The calls that change nothing: a payload's status, and the top build_id.
 pub mod get;
 pub mod top_id;

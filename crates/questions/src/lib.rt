@@ -1,4 +1,4 @@
-// Get, list and the top build-id over the records buffer. No function asks anything of its caller.
+// Get, list and the top build_id over the records buffer. No function asks anything of its caller.
 ghost use Rattle.std.specs.Prelude.{◌≡◌, ◌++◌, length};
 ghost use Rattle.words.specs.Number.{le_bytes};
 ghost use Rattle.queries.specs.Get.{get_of};
@@ -110,7 +110,7 @@ pub fn list(
     0
 }
 
-// Where the top build-id stands: in which buffer, from where on, and its length.
+// Where the top build_id stands: in which buffer, from where on, and its length.
 pub fn top_build_id(records: &[u8], build_id: &[u8], ids: &[u8], out: &mut [u8]) -> u64
     ensures { asked result out.new
         ≡ top_asked records.now build_id.now ids.now out.old }
