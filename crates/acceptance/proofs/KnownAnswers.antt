@@ -39,7 +39,7 @@ use Rattle.acceptance.specs.Known.{Relative, Plain, Jumps, bytes_for, KnownAnswe
 -- ---- K1, K2, K8, K9: records
 
 module _ (p : Patching) (at old : ℕ) (f : FunctionRecord) where
-  -- x86_64 refuses no address
+  -- x86-64 refuses no address
   addresses-ok : p.host.processor ≡ X86_64 → addresses_ok p old f ≡ true
   addresses-ok machine = rw machine
 

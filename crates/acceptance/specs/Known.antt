@@ -38,7 +38,7 @@ pub record Relative (l : Linking) (area : Area) (r : elf.Relocation) (v : ℕ) :
   pub resolved : symbol_value l r.r_symbol ≡ Value symbol
   pub result : wrapping_difference (wrapping_sum symbol r.r_addend) (field_address l area r) ≡ v
 
--- a record on x86_64 with nothing against it but what its kind of edit asks
+-- a record on x86-64 with nothing against it but what its kind of edit asks
 pub record Plain (p : Patching) (at old : ℕ) (f : FunctionRecord) : Type 0 where
   pub machine : p.host.processor ≡ X86_64
   pub form : form_ok p.placed at f ≡ true

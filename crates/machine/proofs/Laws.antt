@@ -46,7 +46,7 @@ pub record Lawful (m : Machine) : Type 0 where
   pub fill_max : (n : ℕ) → m.fill_size n ≡ true → n ≤ edit_max
   pub displaced : (old new : ℕ) → m.displacement old new < 2 ^ 64
 
--- the sizes of a fill on x86_64
+-- the sizes of a fill on x86-64
 x86-fill : (n : ℕ) → is_fill_size n ≡ true → (1 ≤ n) × (n ≤ edit_max)
 unfolding is_fill_size
 x86-fill n h =

@@ -1,4 +1,4 @@
--- x86_64, as document 01 has it, with the no-op instructions of document 02, W5.
+-- x86-64, as document 01 has it, with the no-op instructions of document 02, W5.
 use Rattle.std.specs.Prelude.{ℕ, zero, suc, ◌/◌, ◌%◌, Bool, true, cond, ◌&&◌, ◌||◌, List, [], ◌∷◌, ◌++◌, leb, eqb, get_or}
 use Rattle.words.specs.Address.{wrapping_sum, wrapping_difference, signed, fits}
 use Rattle.words.specs.Number.{le_bytes}

@@ -24,7 +24,7 @@ pub enum RelocationType {
 // The longest edit.
 pub const EDIT_MAX: u64 = 31;
 
-// The relocation types of x86_64.
+// The relocation types of x86-64.
 fn x86_type(number: u64) -> RelocationType
     ensures { result ≡ type_of number }
 {
@@ -43,7 +43,7 @@ fn x86_type(number: u64) -> RelocationType
     RelocationType::Unknown
 }
 
-// The sizes of a fill on x86_64.
+// The sizes of a fill on x86-64.
 fn x86_fill(size: u64) -> bool
     ensures { result ≡ is_fill_size size }
 {
