@@ -2,14 +2,12 @@
 use Prim.Native.Nat.{ℕ}
 use mathlib.Core.Path.{◌≡◌, ap}
 use mathlib.Core.List.{List}
-use borrow.Author.Rules.{rules}
 use Rattle.words.specs.Order.{order_of, compared_bytes, comparison}
 use Rattle.words.specs.declared.bytes.Comparison.{Comparison}
 use Rattle.words.specs.declared.bytes.Order.{Order}
 use Rattle.words.proofs.Order.{compared-order}
 use Rattle.lookups.specs.Numbers.{order_number}
-use Rattle.lookups.proofs.lookups_compare.Statement.{statement}
-use Rattle.lookups.proofs.lookups_compare.Tie as tie
+use Rattle.lookups.proofs.lookups_compare.Goals as goal
 
 -- the numbers of a comparison
 numbers :
@@ -18,23 +16,17 @@ numbers :
 unfolding comparison
 numbers a b e h = (rw (← compared-order a b e, h), ap (λ (r : Comparison). r.compared) e)
 
-returns : tie.Need-returns
-returns c = numbers _ _ c.before.before.compare.ensures c.enum_told.given.1
+pub returns-in-Less : goal.returns-in-Less
+returns-in-Less c =
+    let n = numbers _ _ c.compare-comparison.ensures c.in-Less.is in
+    record { value = n.0; compared_after = n.1 }
 
-returns-2 : tie.Need-returns-2
-returns-2 c = numbers _ _ c.before.before.compare.ensures c.enum-told2.given.1
+pub returns-in-Same : goal.returns-in-Same
+returns-in-Same c =
+    let n = numbers _ _ c.compare-comparison.ensures c.in-Same.is in
+    record { value = n.0; compared_after = n.1 }
 
-returns-3 : tie.Need-returns-3
-returns-3 c = numbers _ _ c.before.before.compare.ensures c.enum-told3.given.1
-
-pub lookups-compare-spec : {M : Type 1} → statement M
-lookups-compare-spec =
-    tie.close
-    (tie.spec
-    (λ c κs. search rules)
-    (λ c. search rules)
-    (λ c. search rules)
-    (λ c. search rules)
-    returns
-    returns-2
-    returns-3)
+pub returns-in-Greater : goal.returns-in-Greater
+returns-in-Greater c =
+    let n = numbers _ _ c.compare-comparison.ensures c.in-Greater.is in
+    record { value = n.0; compared_after = n.1 }
