@@ -197,6 +197,7 @@ fn plain_kind(h: SectionHeader, name: &[u8]) -> Kind
     Kind::Unknown
 }
 
+#[tactic(auto, unfolding(crate::specs::Kinds::kind_named))]
 fn kind_named(h: SectionHeader, name: &[u8]) -> Kind
     ensures { result ≡ kind_named h name.now }
 {

@@ -1,5 +1,7 @@
 // A reader of a relocation section's entries: it holds the section's bytes and its position. Its functions are thin and leave
 // the work to the cursor. Others read by `next_entry`, whose parameters are a plain slice and a number.
+#![tactic(auto)]
+
 ghost use Rattle.std.specs.Prelude.{◌≡◌};
 ghost use Rattle.reader.specs.Entries.{next_from, reader_at, next_in};
 

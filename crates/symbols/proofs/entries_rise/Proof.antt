@@ -4,7 +4,6 @@ use mathlib.Core.Path.{◌≡◌, sym, ◌∙◌}
 use mathlib.Core.List.{List, []}
 use native.Mathlib.Omega.{arith}
 use borrow.Author.Rules.{rules}
-use borrow.Author.Tests.{not-true, not-false}
 use lib.ListN.{length, take, drop}
 use Rattle.symbols.specs.SymbolList.{entry_at, entries_from}
 use Rattle.symbols.proofs.Laws.{Read, read-broken, read-entry, entries-turn, entries-end}

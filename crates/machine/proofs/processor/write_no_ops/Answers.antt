@@ -1,5 +1,5 @@
 -- `write_no_ops` meets its contract: after i turns the first i nines are written.
-use Prim.Native.Nat.{◌*◌, ◌-◌, ◌/◌, ◌%◌}
+use Prim.Native.Nat.{◌*◌, ◌/◌, ◌%◌}
 use mathlib.Core.Path.{◌≡◌, refl, sym, ap, ◌∙◌}
 use mathlib.Core.List.{append-nil}
 use native.Mathlib.Numerals.{add-one}

@@ -1,5 +1,5 @@
 -- `be::read` meets its contract: `x` is the number of the first `i` bytes.
-use Rattle.std.proofs.Common.{◌≡◌, ◌-◌, ◌^◌, ◌<◌, ◌≤◌, sym, pow-suc, add-one, arith}
+use Rattle.std.proofs.Common.{◌≡◌, ◌^◌, ◌<◌, ◌≤◌, sym, pow-suc, add-one, arith}
 use Rattle.words.proofs.Number.{be_at-none, be_at-more, power-within}
 use Rattle.words.proofs.be.read.Goals as goal
 use Rattle.words.proofs.be.read.Goals.{In-loop-i}

@@ -1,5 +1,5 @@
 -- `bytes::all_zero` meets its contract: all bytes are zero exactly where those left are.
-use Rattle.std.proofs.Common.{◌-◌, ◌≤◌, length, refl, ◌∙◌, arith, drop_of_length-le, eq-eqb, ne_eqb}
+use Rattle.std.proofs.Common.{◌≤◌, length, refl, ◌∙◌, arith, drop_of_length-le, eq-eqb, ne_eqb}
 use Rattle.words.specs.Order.{all_zero}
 use Rattle.words.proofs.Order.{all-zero-at}
 use Rattle.words.proofs.bytes.all_zero.Goals as goal

@@ -1,5 +1,5 @@
 -- `bytes::compare` meets its contract: the answer is that for what is left of the strings, after the bytes compared before.
-use Rattle.std.proofs.Common.{◌-◌, sym, ◌∙◌, arith}
+use Rattle.std.proofs.Common.{sym, ◌∙◌, arith}
 use Rattle.words.proofs.Order.{compared-begin, compared-differs, compared-further, compared-longer, compared-ended}
 use Rattle.words.proofs.bytes.compare.Goals as goal
 

@@ -1,5 +1,5 @@
 -- `bytes::copy` meets its contract: the first `i` bytes are written.
-use Rattle.std.proofs.Common.{◌-◌, refl, arith}
+use Rattle.std.proofs.Common.{refl, arith}
 use Rattle.words.proofs.Written.{written_none, written-more, written_all}
 use Rattle.words.proofs.bytes.copy.Goals as goal
 

@@ -1,5 +1,5 @@
 -- `bytes::fill` meets its contract: the first `i` bytes are written.
-use Rattle.std.proofs.Common.{◌-◌, sym, arith}
+use Rattle.std.proofs.Common.{sym, arith}
 use lib.ListN.{length-replicate, get_or-replicate}
 use Rattle.words.proofs.Written.{written_none, written-more, written_all}
 use Rattle.words.proofs.bytes.fill.Goals as goal

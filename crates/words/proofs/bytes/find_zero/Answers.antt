@@ -1,5 +1,5 @@
 -- `bytes::find_zero` meets its contract: what is found from `i` on is what is found from `from` on.
-use Rattle.std.proofs.Common.{◌-◌, sym, refl, ◌∙◌, eq-eqb, ne_eqb}
+use Rattle.std.proofs.Common.{sym, refl, ◌∙◌, eq-eqb, ne_eqb}
 use Rattle.words.proofs.Name.{zero_turn, zero-end}
 use Rattle.words.proofs.bytes.find_zero.Goals as goal
 

@@ -1,5 +1,5 @@
 -- `bytes::same` meets its contract: the lists are equal exactly where what is left of them is.
-use Rattle.std.proofs.Common.{◌-◌, ◌≤◌, length, sym, refl, ◌∙◌, arith, drop_of_length-le, eq-eqb, ne_eqb}
+use Rattle.std.proofs.Common.{◌≤◌, length, sym, refl, ◌∙◌, arith, drop_of_length-le, eq-eqb, ne_eqb}
 use Rattle.words.specs.Order.{equal}
 use Rattle.words.proofs.Order.{equal-lengths, equal-at}
 use Rattle.words.proofs.bytes.same.Goals as goal
