@@ -1,16 +1,17 @@
 -- The arrays of a state and of its payloads have their lengths, as owning one tells (`good`).
 use Prim.Native.Nat.{ℕ, zero, suc, ◌≤◌, ◌<◌}
-use mathlib.Core.Path.{◌≡◌, sym, ◌∙◌}
-use mathlib.Core.List.{List, [], ◌∷◌, map}
+use mathlib.Core.Path.{◌≡◌}
+use mathlib.Core.List.{List, [], ◌∷◌}
 use native.Mathlib.Omega.{arith}
-use lib.ListN.{length, get_or, length-map}
+use lib.ListN.{length, get_or}
 use lib.Seq.{length-take-le}
 use mir.Val.{Val}
-use denote.Array.{each}
+use denote.Array.{Array, each}
 use denote.Laws.{Is}
 use denote.Shadow.{shadow}
 use denote.Struct.Declared.{row}
-use denote.Struct.Field.{Field, array_field, u8-field, u32-field, bool-field}
+use denote.Builtin.{bool, u8, u32}
+use denote.RattleType.{RattleType}
 use Rattle.words.proofs.Splice.{get_d_default}
 use Rattle.records.specs.Limits.{name_max, records_max, id_max}
 use Rattle.records.specs.declared.payload.Payload.{Payload}
@@ -24,14 +25,14 @@ use Rattle.state.specs.State.{name_of}
 use Rattle.state.specs.declared.state.State.{State}
 use Rattle.state.specs.contracts.state.State as state
 
--- an array field that is owned: its length, and its elements, each owned
-module _ (F : Field) where
-  array-length : (n : ℕ) (l : List F.Value) (vs : List Val) → Is (array_field F n).row (map F.into l) vs → length l ≡ n
-  array-length n l vs g = sym (length-map l F.into) ∙ g.1.0.1
+-- an array that is owned: its length, and its elements, each owned
+module _ (R : RattleType) where
+  array-length : (n : ℕ) (l : List R.Denot) (vs : List Val) → Is (Array R n) l vs → length l ≡ n
+  array-length n l vs g = g.1.0.1
 
   element :
-      (l : List F.Value) (us : List Val) → shadow (each F.row.Denot F.row.own_val (map F.into l) us) →
-      (i : ℕ) (d : F.Value) → i < length l → (vs : List Val) × Is F.row (F.into (get_or l i d)) vs
+      (l : List R.Denot) (us : List Val) → shadow (each R.Denot R.own_val l us) →
+      (i : ℕ) (d : R.Denot) → i < length l → (vs : List Val) × Is R (get_or l i d) vs
   element [] us g i d h = absurd (omega arith)
   element (x ∷ l) [] g i d h = absurd g
   element (x ∷ l) (u ∷ us) g zero d h = (u ∷ [], g.0)
@@ -46,9 +47,9 @@ pub whole-payload : (p : Payload) (vs : List Val) → Is (row payload.the_type) 
 whole-payload p vs g =
     let fields = g.1.1 in
     record {
-      name = array-length u8-field name_max p.name _ fields.0;
-      dependency = array-length u8-field id_max p.dependency.bytes _ fields.1.1.1.1.1.1.0.1.1.0;
-      edits = array-length edit.the_field records_max p.edits _ fields.1.1.1.1.1.1.1.0;
+      name = array-length u8 name_max p.name _ fields.0;
+      dependency = array-length u8 id_max p.dependency.bytes _ fields.1.1.1.1.1.1.0.1.1.0;
+      edits = array-length edit.the_row records_max p.edits _ fields.1.1.1.1.1.1.1.0;
     }
 
 -- the bytes of a name
@@ -64,14 +65,14 @@ pub record Whole (s : State) : Type 0 where
 pub whole : (s : State) (vs : List Val) → Is (row state.the_type) s vs → Whole s
 whole s vs g =
     let fields = g.1.1 in
-    let many = array-length payload.the_field slot_count s.payloads _ fields.1.1.1.0 in
+    let many = array-length payload.the_row slot_count s.payloads _ fields.1.1.1.0 in
     record {
       payloads = many;
       each_payload = λ i h.
-          let one = element payload.the_field s.payloads _ fields.1.1.1.0.1.1 i empty (omega arith) in
+          let one = element payload.the_row s.payloads _ fields.1.1.1.0.1.1 i empty (omega arith) in
           whole-payload (payload_at s i) one.0 one.1;
-      stack = array-length u32-field slot_count s.stack _ fields.1.1.1.1.1.0;
-      held = array-length bool-field cpus_max s.job.held _ fields.1.1.1.1.1.1.0.1.1.1.1.0;
+      stack = array-length u32 slot_count s.stack _ fields.1.1.1.1.1.0;
+      held = array-length bool cpus_max s.job.held _ fields.1.1.1.1.1.1.0.1.1.1.1.0;
     }
 
 -- what stands for a payload that is not there, where one is copied out of an array

@@ -16,60 +16,45 @@ use Rattle.state_bytes.specs.Layout.{held_place}
 use Rattle.state_bytes.proofs.head.flags_ok.Statement.{statement}
 use Rattle.state_bytes.proofs.head.flags_ok.Tie as tie
 
-abbrev invariant-loop : tie.invariant-loop
-invariant-loop b i₀ i =
-    (i ≤ cpus_max) × (flags_ok b ≡ every (λ byte. leb byte 1) (drop i (take cpus_max (drop held_place b))))
+abbrev invariant-loop-i : tie.invariant-loop-i
+invariant-loop-i b i₀ i = (i ≤ cpus_max) × (flags_ok b ≡ every (λ byte. leb byte 1) (drop i (take cpus_max (drop held_place b))))
 
-abbrev decreases-loop : tie.decreases-loop
-decreases-loop b i₀ i = cpus_max - i
+abbrev decreases-loop-i : tie.decreases-loop-i
+decreases-loop-i b i₀ i = cpus_max - i
 
-loop-holds : tie.Need-loop-init invariant-loop decreases-loop
+loop-i-init : tie.Need-loop-i-init invariant-loop-i decreases-loop-i
 unfolding flags_ok part
-loop-holds c = (omega arith, refl)
+loop-i-init c = (omega arith, refl)
 
 -- there are as many bytes as CPUs
-many : (c : tie.Start invariant-loop decreases-loop) → cpus_max ≤ length (drop held_place c.args.b.now)
+many : (c : tie.Start invariant-loop-i decreases-loop-i) → cpus_max ≤ length (drop held_place c.args.b.now)
 many c = rw length-drop (omega arith)
 
 -- the bytes from `i` on: the one at `i`, and those behind it
 next :
-    (c : tie.In-loop invariant-loop decreases-loop) →
-    let b = c.before.before.args.b.now in
-    let i = c.before.loop.i in
+    (c : tie.In-loop-i invariant-loop-i decreases-loop-i) →
+    let b = c.args.b.now in
+    let i = c.loop-i.i in
     every (λ byte. leb byte 1) (drop i (take cpus_max (drop held_place b)))
     ≡ (leb (get_or b (held_place + i) 0) 1 && every (λ byte. leb byte 1) (drop (i + 1) (take cpus_max (drop held_place b))))
 next c =
-    let b = c.before.before.args.b.now in
-    let i = c.before.loop.i in
-    every-turn (λ byte. leb byte 1) (drop held_place b) cpus_max i (many c.before.before) 0 c.loop-test.true
+    let b = c.args.b.now in
+    let i = c.loop-i.i in
+    every-turn (λ byte. leb byte 1) (drop held_place b) cpus_max i (many c.before.before) 0 c.loop-i-test.true
     ∙ rw (get_or-drop held_place b i 0)
 
-returns : tie.Need-returns invariant-loop decreases-loop
-returns c =
-    let l = c.before.before in
-    sym (l.before.loop.invariant.1 ∙ next l ∙ rw (lt-leb _ _ c.if1.true))
+returns-then-b-i-gt1 : tie.Need-returns-then-b-i-gt1 invariant-loop-i decreases-loop-i
+returns-then-b-i-gt1 c = sym (c.loop-i.invariant.1 ∙ next c.before.before ∙ rw (lt-leb _ _ c.if-b-i-gt1.true))
 
-loop-again : tie.Need-loop-preserved invariant-loop decreases-loop
-loop-again c =
-    let l = c.before.before in (
-      omega arith,
-      l.before.loop.invariant.1 ∙ next l ∙ rw (le-leb _ _ c.if1.false),
-    )
+loop-i-preserved : tie.Need-loop-i-preserved invariant-loop-i decreases-loop-i
+loop-i-preserved c = (
+  omega arith,
+  c.loop-i.invariant.1 ∙ next c.before.before ∙ rw (le-leb _ _ c.if-b-i-gt1.false),
+)
 
-returns-2 : tie.Need-returns-2 invariant-loop decreases-loop
-returns-2 c = sym (c.before.loop.invariant.1 ∙ every-end (λ byte. leb byte 1) (drop held_place c.before.before.args.b.now) cpus_max _ (many c.before.before) c.loop-test.false)
+returns : tie.Need-returns invariant-loop-i decreases-loop-i
+returns c = sym (c.loop-i.invariant.1 ∙ every-end (λ byte. leb byte 1) (drop held_place c.args.b.now) cpus_max _ (many c.before.before) c.loop-i-test.false)
 
-pub flags-ok-spec : {M : Type 1} → statement M
-flags-ok-spec =
-    tie.close
-    (tie.spec
-    invariant-loop
-    decreases-loop
-    loop-holds
-    (λ c. omega arith)
-    (λ c. omega arith)
-    returns
-    (λ c. omega arith)
-    (λ c. omega arith)
-    loop-again
-    returns-2)
+pub flags_ok_spec : {M : Type 1} → statement M
+flags_ok_spec =
+    tie.close (tie.spec invariant-loop-i decreases-loop-i loop-i-init (λ c. omega arith) (λ c. omega arith) returns-then-b-i-gt1 (λ c. omega arith) (λ c. omega arith) loop-i-preserved returns)

@@ -1,0 +1,28 @@
+-- `edits::edits_ok` meets its contract: all edits pass exactly where those from `i` on do.
+use mathlib.Core.Path.{sym, ◌∙◌}
+use native.Mathlib.Omega.{arith}
+use Rattle.words.proofs.Scan.{begin, turn, end}
+use Rattle.words.proofs.Tests.{held, refuted}
+use Rattle.state_bytes.specs.Flags.{edits_ok}
+use Rattle.state_bytes.proofs.edits.edits_ok.Goals as goal
+
+pub loop-i-init : goal.loop-i-init
+unfolding edits_ok
+loop-i-init c = (omega arith, begin _ _ _)
+
+pub returns-then-not-kind_ok : goal.returns-then-not-kind_ok
+returns-then-not-kind_ok c = sym
+    (c.loop-i.invariant.1
+    ∙ turn _ _ _ _ c.loop-i-test.true
+    ∙ rw (refuted c.kind_ok.ensures c.if-not-kind_ok.true))
+
+pub loop-i-preserved : goal.loop-i-preserved
+loop-i-preserved c = (
+  omega arith,
+  c.loop-i.invariant.1
+      ∙ turn _ _ _ _ c.loop-i-test.true
+      ∙ rw (held c.kind_ok.ensures c.if-not-kind_ok.false),
+)
+
+pub returns : goal.returns
+returns c = sym (c.loop-i.invariant.1 ∙ end _ _ _ _ c.loop-i-test.false)

@@ -1,0 +1,7 @@
+-- `parts::version` meets its contract.
+use Rattle.state_bytes.specs.Stored.{state_in}
+use Rattle.state_bytes.proofs.parts.version.Goals as goal
+
+pub returns : goal.returns
+unfolding state_in
+returns c = c.load4.ensures
