@@ -1,4 +1,6 @@
 // The two notes: the payload's build_id, and the one that it depends on.
+#![tactic(auto)]
+
 ghost use Rattle.std.specs.Prelude.{◌≡◌, true, ◌≤◌};
 ghost use Rattle.records.specs.Limits.{sections_max};
 ghost use Rattle.notes.specs.Notes.{note_head_ok, note_ok, id_in, note_rules};

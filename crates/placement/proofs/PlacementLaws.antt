@@ -157,9 +157,9 @@ module _ (ss : List SectionEntry) where
 -- ---- the slot's bytes
 
 -- `no_bytes` unfolds in these alone: elsewhere its zeros would be written out
-pub no_bytes : replicate placed_max 0 ≡ no_bytes
+pub no_bytes-zeros : replicate placed_max 0 ≡ no_bytes
 unfolding no_bytes
-no_bytes = refl
+no_bytes-zeros = refl
 
 pub length_none : length no_bytes ≡ placed_max
 unfolding no_bytes

@@ -1,4 +1,6 @@
 // Placement: where each placed section stands in the slot, and the slot's bytes before relocation.
+#![tactic(auto)]
+
 ghost use Rattle.std.specs.Prelude.{◌≡◌, ◌+◌, ◌≤◌, length};
 ghost use Rattle.records.specs.Limits.{sections_max, placed_max};
 ghost use Rattle.placement.specs.Placement.{
@@ -44,6 +46,7 @@ pub enum Step {
 }
 
 // Whether the section goes into the slot.
+#[tactic(auto, unfolding(crate::specs::Placement::is_placed))]
 pub fn is_placed(s: SectionEntry) -> bool
     ensures { result ≡ is_placed s }
 {

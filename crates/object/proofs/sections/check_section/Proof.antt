@@ -32,125 +32,85 @@ module _ (s : tie.Start) where
   Aligned = alignment_ok s.args.s.header ≡ true
 
 -- the function's entry from its first test, and its first test from the fourth
-abbrev entered : tie.Else1 → tie.Start
+abbrev entered : tie.Else-h-eq0 → tie.Start
 entered c = c.before.before.before.before
 
-abbrev first : tie.Else4 → tie.Else1
+abbrev first : tie.Else-not-known_flags → tie.Else-h-eq0
 first c =
-    let typed = c.before.before in
-    let named = typed.before.before in
-    named.before.before
+    c.before.before.before.before.before.before
 
 -- each return, and before it what all tests passed so far tell
 
-returns : tie.Need-returns
+returns-then-h-eq0 : tie.Need-returns-then-h-eq0
 unfolding section_rules
-returns c = rw (eq-eqb _ _ c.if1.true)
+returns-then-h-eq0 c = rw (eq-eqb _ _ c.if-h-eq0.true)
 
-used : (c : tie.Else1) → Used (entered c)
-used c = ne_eqb _ _ c.if1.false
+used : (c : tie.Else-h-eq0) → Used (entered c)
+used c = ne_eqb _ _ c.if-h-eq0.false
 
-returns-2 : tie.Need-returns-2
+returns-then-code : tie.Need-returns-then-code
 unfolding section_rules
-returns-2 c =
-    let asked = c.before.before in
-    let some = asked.before in
-    rw (used some, equals some.before.before.code.ensures (c.before.if2.true ∙ asked.code2.ensures)) c.refused.ensures
+returns-then-code c = rw (used c.before.before.before, equals c.code-code.ensures (c.if-code.true ∙ c.code.ensures)) c.refused.ensures
 
-named : (c : tie.Else2) → let s = entered c.before.before in Used s × Named s
+named : (c : tie.Else-code) → let s = entered c.before.before in Used s × Named s
 named c =
-    let some = c.before.before in
-    (used some, differs some.before.before.code.ensures (λ e. c.if2.false (e ∙ sym c.before.code2.ensures)))
+    (used c.before.before, differs c.code-code.ensures (λ e. c.if-code.false (e ∙ sym c.code.ensures)))
 
-returns-3 : tie.Need-returns-3
+returns-then-not-known_type : tie.Need-returns-then-not-known_type
 unfolding section_rules
-returns-3 c =
-    let asked = c.before.before in
-    let told = named asked.before in
-    rw (told.0, told.1, refuted asked.known-type.ensures c.before.if3.true) c.refused2.ensures
+returns-then-not-known_type c = let told = named c.before.before.before in
+    rw (told.0, told.1, refuted c.known_type.ensures c.if-not-known_type.true) c.refused-then-not-known_type.ensures
 
-typed : (c : tie.Else3) → let s = entered c.before.before.before.before in Used s × Named s × Typed s
+typed : (c : tie.Else-not-known_type) → let s = entered c.before.before.before.before in Used s × Named s × Typed s
 typed c =
     let told = named c.before.before in
-    (told.0, told.1, held c.before.known-type.ensures c.if3.false)
+    (told.0, told.1, held c.known_type.ensures c.if-not-known_type.false)
 
-returns-4 : tie.Need-returns-4
+returns-then-not-known_flags : tie.Need-returns-then-not-known_flags
 unfolding section_rules
-returns-4 c =
-    let asked = c.before.before in
-    let told = typed asked.before in
-    rw (told.0, told.1, told.2, refuted asked.known-flags.ensures c.before.if4.true) c.refused3.ensures
+returns-then-not-known_flags c = let told = typed c.before.before.before in
+    rw (told.0, told.1, told.2, refuted c.known_flags.ensures c.if-not-known_flags.true) c.refused-then-not-known_flags.ensures
 
-flagged : (c : tie.Else4) → let s = entered (first c) in Used s × Named s × Typed s × Flagged s
+flagged : (c : tie.Else-not-known_flags) → let s = entered (first c) in Used s × Named s × Typed s × Flagged s
 flagged c =
     let told = typed c.before.before in
-    (told.0, told.1, told.2, held c.before.known-flags.ensures c.if4.false)
+    (told.0, told.1, told.2, held c.known_flags.ensures c.if-not-known_flags.false)
 
-returns-5 : tie.Need-returns-5
+returns-then-code-2 : tie.Need-returns-then-code-2
 unfolding section_rules
-returns-5 c =
-    let asked = c.before.before in
-    let told = flagged asked.before in
-    let code_is = (first asked.before).before.before.code.ensures in
-    rw (told.0, told.1, told.2, told.3, equals code_is (c.before.if5.true ∙ asked.code3.ensures)) c.refused4.ensures
+returns-then-code-2 c = let told = flagged c.before.before.before in
+    let code_is = (first c.before.before.before).before.before.code-code.ensures in
+    rw (told.0, told.1, told.2, told.3, equals code_is (c.if-code-2.true ∙ c.code-2.ensures)) c.refused-then-code-2.ensures
 
-kinded : (c : tie.Else5) → let s = entered (first c.before.before) in Used s × Named s × Typed s × Flagged s × Kinded s
+kinded : (c : tie.Else-code-2) → let s = entered (first c.before.before) in Used s × Named s × Typed s × Flagged s × Kinded s
 kinded c =
     let told = flagged c.before.before in
-    let code_is = (first c.before.before).before.before.code.ensures in
-    (told.0, told.1, told.2, told.3, differs code_is (λ e. c.if5.false (e ∙ sym c.before.code3.ensures)))
+    let code_is = (first c.before.before).before.before.code-code.ensures in
+    (told.0, told.1, told.2, told.3, differs code_is (λ e. c.if-code-2.false (e ∙ sym c.code-2.ensures)))
 
-returns-6 : tie.Need-returns-6
+returns-then-not-alignment_ok : tie.Need-returns-then-not-alignment_ok
 unfolding section_rules
-returns-6 c =
-    let asked = c.before.before in
-    let told = kinded asked.before in
-    rw (told.0, told.1, told.2, told.3, told.4, refuted asked.alignment-ok.ensures c.before.if6.true) c.refused5.ensures
+returns-then-not-alignment_ok c = let told = kinded c.before.before.before in
+    rw (told.0, told.1, told.2, told.3, told.4, refuted c.alignment_ok.ensures c.if-not-alignment_ok.true) c.refused-then-not-alignment_ok.ensures
 
 aligned :
-    (c : tie.Else6) →
+    (c : tie.Else-not-alignment_ok) →
     let s = entered (first c.before.before.before.before) in
     Used s × Named s × Typed s × Flagged s × Kinded s × Aligned s
 aligned c =
     let told = kinded c.before.before in
-    (told.0, told.1, told.2, told.3, told.4, held c.before.alignment-ok.ensures c.if6.false)
+    (told.0, told.1, told.2, told.3, told.4, held c.alignment_ok.ensures c.if-not-alignment_ok.false)
 
-returns-7 : tie.Need-returns-7
+returns-then-not-contents_ok : tie.Need-returns-then-not-contents_ok
 unfolding section_rules
-returns-7 c =
-    let asked = c.before.before in
-    let told = aligned asked.before in
-    rw (told.0, told.1, told.2, told.3, told.4, told.5, refuted asked.contents-ok.ensures c.before.if7.true) c.refused6.ensures
+returns-then-not-contents_ok c = let told = aligned c.before.before.before in
+    rw (told.0, told.1, told.2, told.3, told.4, told.5, refuted c.contents_ok.ensures c.if-not-contents_ok.true) c.refused-then-not-contents_ok.ensures
 
-returns-8 : tie.Need-returns-8
+returns : tie.Need-returns
 unfolding section_rules
-returns-8 c =
-    let asked = c.before in
-    let told = aligned asked.before in
-    rw (told.0, told.1, told.2, told.3, told.4, told.5, held asked.contents-ok.ensures c.if7.false)
+returns c = let told = aligned c.before.before in
+    rw (told.0, told.1, told.2, told.3, told.4, told.5, held c.contents_ok.ensures c.if-not-contents_ok.false)
 
-pub check-section-spec : {M : Type 1} → statement M
-check-section-spec =
-    tie.close
-    (tie.spec
-    (λ c κs. search rules)
-    returns
-    (λ c κs. search rules)
-    (λ c κs. search rules)
-    returns-2
-    (λ c κs. search rules)
-    (λ c κs. search rules)
-    returns-3
-    (λ c κs. search rules)
-    (λ c κs. search rules)
-    returns-4
-    (λ c κs. search rules)
-    (λ c κs. search rules)
-    returns-5
-    (λ c κs. search rules)
-    (λ c κs. search rules)
-    returns-6
-    (λ c κs. search rules)
-    (λ c κs. search rules)
-    returns-7
-    returns-8)
+pub check_section_spec : {M : Type 1} → statement M
+check_section_spec =
+    tie.close (tie.spec (λ c κs. search rules) returns-then-h-eq0 (λ c κs. search rules) (λ c κs. search rules) returns-then-code (λ c κs. search rules) (λ c κs. search rules) returns-then-not-known_type (λ c κs. search rules) (λ c κs. search rules) returns-then-not-known_flags (λ c κs. search rules) (λ c κs. search rules) returns-then-code-2 (λ c κs. search rules) (λ c κs. search rules) returns-then-not-alignment_ok (λ c κs. search rules) (λ c κs. search rules) returns-then-not-contents_ok returns)

@@ -12,69 +12,47 @@ use Rattle.object.proofs.SectionLaws.{count-read}
 use Rattle.object.proofs.sections.read_sections.Statement.{statement}
 use Rattle.object.proofs.sections.read_sections.Tie as tie
 
-abbrev invariant-loop : tie.invariant-loop
-invariant-loop file count names table₀ i₀ table i = (i ≤ count) × (table ≡ filled (section_read file) no_entry sections_max i)
+abbrev invariant-loop-i : tie.invariant-loop-i
+invariant-loop-i file count names table₀ i₀ table i = (i ≤ count) × (table ≡ filled (section_read file) no_entry sections_max i)
 
-abbrev decreases-loop : tie.decreases-loop
-decreases-loop file count names table₀ i₀ table i = count - i
+abbrev decreases-loop-i : tie.decreases-loop-i
+decreases-loop-i file count names table₀ i₀ table i = count - i
 
-loop-holds : tie.Need-loop-init invariant-loop decreases-loop
-loop-holds c = (omega arith, ap (replicate sections_max) c.none.ensures ∙ fill-begin _ _ _)
+loop-i-init : tie.Need-loop-i-init invariant-loop-i decreases-loop-i
+loop-i-init c = (omega arith, ap (replicate sections_max) c.none-none.ensures ∙ fill-begin _ _ _)
 
 -- the count is the header's, at the start of each turn
 count-told :
-    (c : tie.At-loop invariant-loop decreases-loop) →
-    let read = c.before.before.before in
-    read.read-file-header.result.e_shnum ≡ section_count read.before.before.args.file.now
+    (c : tie.At-loop-i invariant-loop-i decreases-loop-i) →
+    c.read_file_header-h.result.e_shnum ≡ section_count c.args.file.now
 count-told c =
-    let read = c.before.before.before in
-    count-read _ read.read-file-header.ensures.0
+    count-read _ c.read_file_header-h.ensures.0
 
-entry-at-requires : tie.Need-entry-at-requires invariant-loop decreases-loop
-entry-at-requires c κs =
-    let named = c.before.before.before in
-    let entered = named.before.before.before in
-    (entered.requires.0, omega (arith, count-told c.before), named.name_table.ensures)
+entry_at-one-requires : tie.Need-entry_at-one-requires invariant-loop-i decreases-loop-i
+entry_at-one-requires c κs = (c.requires.0, omega (arith, count-told c.before), c.name_table-names.ensures)
 
 -- a section's number is below 64
-in_table : (c : tie.In-loop invariant-loop decreases-loop) → c.before.loop.i < sections_max
+in_table : (c : tie.In-loop-i invariant-loop-i decreases-loop-i) → c.loop-i.i < sections_max
 in_table c =
-    let read = c.before.before.before.before in
-    omega (arith, count-told c.before, read.before.before.requires.0.few)
+    omega (arith, count-told c.before, c.requires.0.few)
 
-mul-table : tie.Need-overflow-mul-table invariant-loop decreases-loop
-mul-table c = omega (arith, in_table c.before)
+offset_bounds-table-i : tie.Need-offset_bounds-table-i invariant-loop-i decreases-loop-i
+offset_bounds-table-i c = omega (arith, in_table c.before)
 
-array-set-from-table : tie.Need-array-set-from-table invariant-loop decreases-loop
-array-set-from-table c = in_table c.before
+bounds-table-i : tie.Need-bounds-table-i invariant-loop-i decreases-loop-i
+bounds-table-i c = in_table c.before
 
-loop-again : tie.Need-loop-preserved invariant-loop decreases-loop
-loop-again c = (
+loop-i-preserved : tie.Need-loop-i-preserved invariant-loop-i decreases-loop-i
+loop-i-preserved c = (
   omega arith,
-  rw (c.before.before.loop.invariant.1, c.entry_at.ensures) (fill-turn _ no_entry sections_max _ (in_table c.before)),
+  rw (c.loop-i.invariant.1, c.entry_at-one.ensures) (fill-turn _ no_entry sections_max _ (in_table c.before)),
 )
 
-returns : tie.Need-returns invariant-loop decreases-loop
+returns : tie.Need-returns invariant-loop-i decreases-loop-i
 unfolding sections
-returns c =
-    let read = c.before.before.before.before in
-    let all : c.before.loop.i ≡ section_count read.before.before.args.file.now = omega (arith, count-told c.before) in
-    rw (c.before.loop.invariant.1, all)
+returns c = let all : c.loop-i.i ≡ section_count c.args.file.now = omega (arith, count-told c.before) in
+    rw (c.loop-i.invariant.1, all)
 
-pub read-sections-spec : {M : Type 1} → statement M
-read-sections-spec =
-    tie.close
-    (tie.spec
-    invariant-loop
-    decreases-loop
-    (λ c κs. search rules)
-    (λ c κs. search rules)
-    (λ c κs. search rules)
-    loop-holds
-    entry-at-requires
-    mul-table
-    array-set-from-table
-    (λ c. omega arith)
-    (λ c. omega arith)
-    loop-again
-    returns)
+pub read_sections_spec : {M : Type 1} → statement M
+read_sections_spec =
+    tie.close (tie.spec invariant-loop-i decreases-loop-i (λ c κs. search rules) (λ c κs. search rules) (λ c κs. search rules) loop-i-init entry_at-one-requires offset_bounds-table-i bounds-table-i (λ c. omega arith) (λ c. omega arith) loop-i-preserved returns)
