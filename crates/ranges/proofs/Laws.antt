@@ -9,7 +9,7 @@ use lib.ListN.{take, get_or}
 use Rattle.words.specs.Find.{every}
 use Rattle.words.proofs.Find.{every-taken}
 use Rattle.words.proofs.Tests.{both, three, four, five, six}
-use Rattle.records.specs.Limits.{id_min, id_max, records_max, name_max}
+use Rattle.records.specs.Limits.{id_min, id_max as id_limit, records_max, name_max}
 use Rattle.records.specs.Name.{is_name}
 use Rattle.records.specs.Payload.{no_edit, empty}
 use Rattle.records.specs.declared.payload.Edit.{Edit}
@@ -58,9 +58,9 @@ pub record PayloadInRange (c : Config) (p : Payload) : Type 0 where
   pub named : p.name_length ≤ name_max
   pub name : is_name (name_of p) ≡ true
   pub id_some : id_min ≤ p.id_length
-  pub id_max : p.id_length ≤ id_max
+  pub id_max : p.id_length ≤ id_limit
   pub dependency_some : id_min ≤ p.dependency.length
-  pub dependency_max : p.dependency.length ≤ id_max
+  pub dependency_max : p.dependency.length ≤ id_limit
   pub edits_some : 1 ≤ p.edit_count
   pub edits_max : p.edit_count ≤ records_max
   pub edits : (r : ℕ) → r < p.edit_count → EditInRange c (get_or p.edits r no_edit)
@@ -72,7 +72,7 @@ payload-in-range {c} {p} w h =
     five (ltb p.slot slot_count) (is_status p.status) (name_in_range p) (ids_in_range p) (edits_in_range c p) h in
     let name = both (leb p.name_length name_max) (is_name (name_of p)) parts.2 in
     let ids =
-    four (leb id_min p.id_length) (leb p.id_length id_max) (leb id_min p.dependency.length) (leb p.dependency.length id_max)
+    four (leb id_min p.id_length) (leb p.id_length id_limit) (leb id_min p.dependency.length) (leb p.dependency.length id_limit)
     parts.3 in
     let edits =
     three (leb 1 p.edit_count) (leb p.edit_count records_max) (every (edit_in_range c) (take p.edit_count p.edits)) parts.4 in

@@ -1,4 +1,6 @@
 // Start-up: the host lends its memory.
+#![tactic(auto)]
+
 ghost use Rattle.std.specs.Prelude.{◌≡◌};
 ghost use Rattle.startup.specs.Start.{stores_ok, refused_start, started, start_of};
 

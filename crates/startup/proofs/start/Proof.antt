@@ -31,31 +31,25 @@ module _ (c : tie.Start) where
   refused : {r : Called} → r ≡ refused_start → start_ok lent ≡ false → started r lent.arena lent.undo lent.ids ≡ start_of lent
   refused told wrong = ap (λ (r : Called). started r lent.arena lent.undo lent.ids) told ∙ sym (refuses lent wrong)
 
-returns : tie.Need-returns
-returns c =
-    let sizing = c.before.before in
-    refused sizing.before.before.before.before.before.before c.refuse.ensures (rw (refuted sizing.stores-ok.ensures c.before.if1.true))
+returns-then-not-stores_ok : tie.Need-returns-then-not-stores_ok
+returns-then-not-stores_ok c = refused c.before.before.before.before.before.before.before.before c.refuse.ensures (rw (refuted c.stores_ok.ensures c.if-not-stores_ok.true))
 
 -- arena and stores have their sizes
-module _ (c : tie.Else1) where
+module _ (c : tie.Else-not-stores_ok) where
   abbrev begun : tie.Start
   begun = c.before.before.before.before.before.before.before
 
   sized : stores_ok (length (lent begun).arena) (length (lent begun).undo) (length (lent begun).ids) ≡ true
-  sized = held c.before.stores-ok.ensures c.if1.false
+  sized = held c.stores_ok.ensures c.if-not-stores_ok.false
 
   sizes : (length (lent begun).arena ≡ arena_size) × (length (lent begun).undo ≡ undo_size) × (length (lent begun).ids ≡ ids_size)
   sizes = sizes-told _ _ _ sized
 
-returns-2 : tie.Need-returns-2
-returns-2 c =
-    let long = c.before in
-    refused (begun long.before) c.refuse2.ensures (rw (long-id (config_for (lent (begun long.before))) long.if2.true, and-false))
+returns-then-build_id-gt-ID_MAX : tie.Need-returns-then-build_id-gt-ID_MAX
+returns-then-build_id-gt-ID_MAX c = refused (begun c.before.before) c.refuse-then-build_id-gt-ID_MAX.ensures (rw (long-id (config_for (lent (begun c.before.before))) c.if-build_id-gt-ID_MAX.true, and-false))
 
-returns-3 : tie.Need-returns-3
-returns-3 c =
-    let asked = c.before.before in
-    refused (begun asked.before.before) c.refuse3.ensures (rw (refuted asked.is-valid.ensures c.before.if3.true, and-false))
+returns-then-not-is_valid : tie.Need-returns-then-not-is_valid
+returns-then-not-is_valid c = refused (begun c.before.before.before.before) c.refuse-then-not-is_valid.ensures (rw (refuted c.is_valid.ensures c.if-not-is_valid.true, and-false))
 
 fill-requires : tie.Need-fill-requires
 fill-requires c κs = omega (arith, (sizes c.before.before.before.before).0)
@@ -66,39 +60,15 @@ fill-requires-2 c κs = omega (arith, (sizes c.before.before.before.before.befor
 fill-requires-3 : tie.Need-fill-requires-3
 fill-requires-3 c κs = omega (arith, (sizes c.before.before.before.before.before.before.before.before.before.before.before.before).2)
 
-returns-4 : tie.Need-returns-4
-returns-4 c =
-    let third = c.before.before.before in
-    let second = third.before.before.before.before in
-    let first = second.before.before.before.before in
-    let valid = first.before.before in
-    let right = valid.before.before.before in
-    let sizing = sizes right in
+returns : tie.Need-returns
+returns c = let sizing = sizes c.before.before.before.before.before.before.before.before.before.before.before.before.before.before.before.before in
     started-same
-    (ap (λ (s : State). record { verdict = Pass; state = s }) c.with-config.ensures)
-    (first.fill.ensures ∙ zeroed _ _ sizing.0)
-    (second.fill2.ensures ∙ zeroed _ _ sizing.1)
-    (third.fill3.ensures ∙ zeroed _ _ sizing.2)
-    ∙ sym (accepts (lent (begun right)) (rw (sized right, held valid.before.is-valid.ensures valid.if3.false)))
+    (ap (λ (s : State). record { verdict = Pass; state = s }) c.with_config-state.ensures)
+    (c.fill.ensures ∙ zeroed _ _ sizing.0)
+    (c.fill-2.ensures ∙ zeroed _ _ sizing.1)
+    (c.fill-3.ensures ∙ zeroed _ _ sizing.2)
+    ∙ sym (accepts (lent (begun c.before.before.before.before.before.before.before.before.before.before.before.before.before.before.before.before)) (rw (sized c.before.before.before.before.before.before.before.before.before.before.before.before.before.before.before.before, held c.is_valid.ensures c.if-not-is_valid.false)))
 
 pub start_spec : {M : Type 1} → statement M
 start_spec =
-    tie.close
-    (tie.spec
-    (λ c κs. search rules)
-    (λ c κs. search rules)
-    returns
-    (λ c κs. search rules)
-    returns-2
-    (λ c. search rules)
-    (λ c κs. search rules)
-    (λ c κs. search rules)
-    returns-3
-    fill-requires
-    fill-requires-2
-    fill-requires-3
-    (λ c κs. search rules)
-    (λ c. search rules)
-    (λ c. search rules)
-    (λ c. search rules)
-    returns-4)
+    tie.close (tie.spec (λ c κs. search rules) (λ c κs. search rules) returns-then-not-stores_ok (λ c κs. search rules) returns-then-build_id-gt-ID_MAX (λ c. search rules) (λ c κs. search rules) (λ c κs. search rules) returns-then-not-is_valid fill-requires fill-requires-2 fill-requires-3 (λ c κs. search rules) (λ c. search rules) (λ c. search rules) (λ c. search rules) returns)

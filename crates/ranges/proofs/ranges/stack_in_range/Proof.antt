@@ -15,18 +15,17 @@ use Rattle.outlines.specs.declared.outline.Outline.{Outline}
 use Rattle.ranges.proofs.ranges.stack_in_range.Statement.{statement}
 use Rattle.ranges.proofs.ranges.stack_in_range.Tie as tie
 
-abbrev invariant-loop : tie.invariant-loop
-invariant-loop outline i₀ i =
-    (i ≤ outline.depth)
+abbrev invariant-loop-i : tie.invariant-loop-i
+invariant-loop-i outline i₀ i = (i ≤ outline.depth)
     × ((s : State) → Outlines outline s → every (is_taken s) (stack_of s) ≡ every (is_taken s) (drop i (stack_of s)))
 
-abbrev decreases-loop : tie.decreases-loop
-decreases-loop outline i₀ i = outline.depth - i
+abbrev decreases-loop-i : tie.decreases-loop-i
+decreases-loop-i outline i₀ i = outline.depth - i
 
-loop-holds : tie.Need-loop-init invariant-loop decreases-loop
-loop-holds c = (omega arith, λ s h. refl)
+loop-i-init : tie.Need-loop-i-init invariant-loop-i decreases-loop-i
+loop-i-init c = (omega arith, λ s h. refl)
 
-deep : (c : tie.Start invariant-loop decreases-loop) (s : State) → Outlines c.args.t1 s → s.depth ≤ length s.stack
+deep : (c : tie.Start invariant-loop-i decreases-loop-i) (s : State) → Outlines c.args.outline s → s.depth ≤ length s.stack
 deep c s h = omega (arith, h.depth, h.stacked)
 
 -- the slot in question
@@ -36,40 +35,25 @@ slot-at :
 slot-at o s i h fits here = rw h.stack (every-turn (is_taken s) s.stack s.depth i fits 0 here)
 
 turn :
-    (c : tie.In-loop invariant-loop decreases-loop) (s : State) → Outlines c.before.before.args.t1 s →
-    let i = c.before.loop.i in
+    (c : tie.In-loop-i invariant-loop-i decreases-loop-i) (s : State) → Outlines c.args.outline s →
+    let i = c.loop-i.i in
     every (is_taken s) (stack_of s)
-    ≡ (is_taken s (get_or c.before.before.args.t1.stack i 0) && every (is_taken s) (drop (i + 1) (stack_of s)))
+    ≡ (is_taken s (get_or c.args.outline.stack i 0) && every (is_taken s) (drop (i + 1) (stack_of s)))
 turn c s h =
-    let here : c.before.loop.i < s.depth = omega (arith, h.depth) in
-    c.before.loop.invariant.1 s h ∙ slot-at c.before.before.args.t1 s c.before.loop.i h (deep c.before.before s h) here
+    let here : c.loop-i.i < s.depth = omega (arith, h.depth) in
+    c.loop-i.invariant.1 s h ∙ slot-at c.args.outline s c.loop-i.i h (deep c.before.before s h) here
 
-returns : tie.Need-returns invariant-loop decreases-loop
-returns c = λ s h. sym (turn c.before.before.before.before s h ∙ rw (← c.before.before.with-slot.ensures.0 s h, c.enum-told2.given.1))
+returns-in_default : tie.Need-returns-in_default invariant-loop-i decreases-loop-i
+returns-in_default c = λ s h. sym (turn c.before.before.before s h ∙ rw (← c.with_slot.ensures.0 s h, c.in_default.is))
 
-loop-again : tie.Need-loop-preserved invariant-loop decreases-loop
-loop-again c =
-    (omega arith, λ s h. turn c.before.before.before.before s h ∙ rw (← c.before.before.with-slot.ensures.0 s h, c.enum_told.given.1))
+loop-i-preserved : tie.Need-loop-i-preserved invariant-loop-i decreases-loop-i
+loop-i-preserved c = (omega arith, λ s h. turn c.before.before.before s h ∙ rw (← c.with_slot.ensures.0 s h, c.in-At.is))
 
-returns-2 : tie.Need-returns-2 invariant-loop decreases-loop
-returns-2 c = λ s h.
-    let ended : s.depth ≤ c.before.loop.i = omega (arith, h.depth) in
-    sym (c.before.loop.invariant.1 s h ∙ every-end _ _ _ _ (deep c.before.before s h) ended)
+returns : tie.Need-returns invariant-loop-i decreases-loop-i
+returns c = λ s h.
+    let ended : s.depth ≤ c.loop-i.i = omega (arith, h.depth) in
+    sym (c.loop-i.invariant.1 s h ∙ every-end _ _ _ _ (deep c.before.before s h) ended)
 
-pub stack-in-range-spec : {M : Type 1} → statement M
-stack-in-range-spec =
-    tie.close
-    (tie.spec
-    invariant-loop
-    decreases-loop
-    loop-holds
-    (λ c. omega arith)
-    (λ c. omega arith)
-    (λ c κs. search rules)
-    (λ c. search rules)
-    (λ c. search rules)
-    returns
-    (λ c. omega arith)
-    (λ c. omega arith)
-    loop-again
-    returns-2)
+pub stack_in_range_spec : {M : Type 1} → statement M
+stack_in_range_spec =
+    tie.close (tie.spec invariant-loop-i decreases-loop-i loop-i-init (λ c. omega arith) (λ c. omega arith) (λ c κs. search rules) (λ c. search rules) (λ c. search rules) returns-in_default (λ c. omega arith) (λ c. omega arith) loop-i-preserved returns)
