@@ -1,4 +1,8 @@
 // The console: reads a script from standard input, a line at a time, runs it on the loader, and writes the answers.
+#![tactic(auto)]
+
+mod streams;
+
 ghost use Rattle.std.specs.Prelude.{◌≡◌, ◌≤◌, length};
 ghost use Rattle.interpreter.specs.Standing.{memory, gathered, at_first};
 ghost use Rattle.console.specs.Buffers.{Ready};
@@ -7,9 +11,14 @@ use interpreter::console::Console;
 use interpreter::lines;
 use memory::config::Config;
 use state::state::State;
+use std::io;
+use streams::Streams;
 
 // A line is held up to one byte more than it may have, so that one that is too long is seen.
 const HELD_MAX: usize = Console::LINE_MAX + 1;
+
+// How many bytes are read at once.
+const INPUT_ROOM: usize = 65536;
 
 // What is kept from one read to the next: the console, the loader's state, and how many bytes of the line are held.
 #[derive(Clone, Copy)]
@@ -28,6 +37,7 @@ struct Served {
 
 // The line that is held, without its line feed, is run, and its answer written.
 fn run_line(
+    streams: &mut Streams,
     run: Run,
     text: &mut [u8],
     arena: &mut [u8],
@@ -67,7 +77,7 @@ fn run_line(
     let n = stepped.written;
     let console = stepped.console;
     let state = stepped.state;
-    io::write_all(1, &out[..n]);
+    streams.write(&out[..n]);
     Run {
         console,
         state,
@@ -96,6 +106,7 @@ fn hold(run: Run, line: &mut [u8], b: u8) -> Run
 
 // One byte of the input: a line feed ends a line.
 fn run_byte(
+    streams: &mut Streams,
     run: Run,
     text: &mut [u8],
     arena: &mut [u8],
@@ -119,13 +130,16 @@ fn run_byte(
         line.new out.new }
 {
     if b == b'\n' {
-        return run_line(run, text, arena, undo, ids, id, name, list, file, line, out);
+        return run_line(
+            streams, run, text, arena, undo, ids, id, name, list, file, line, out,
+        );
     }
     hold(run, line, b)
 }
 
 // The bytes that were read.
 fn run_bytes(
+    streams: &mut Streams,
     start: Run,
     text: &mut [u8],
     arena: &mut [u8],
@@ -152,7 +166,7 @@ fn run_bytes(
     let mut i = 0;
     while i < bytes.len() {
         run = run_byte(
-            run, text, arena, undo, ids, id, name, list, file, line, out, bytes[i],
+            streams, run, text, arena, undo, ids, id, name, list, file, line, out, bytes[i],
         );
         i += 1;
     }
@@ -161,6 +175,7 @@ fn run_bytes(
 
 // Reads once and runs what came; answers whether to go on.
 fn serve_some(
+    streams: &mut Streams,
     run: Run,
     text: &mut [u8],
     arena: &mut [u8],
@@ -183,12 +198,12 @@ fn serve_some(
         (gathered name.new list.new file.new)
         line.new out.new }
 {
-    let got = libc::read(0, input);
-    let n = io::count(got, input);
+    let n = streams.read(input);
     if n == 0 {
         return Served { run, more: false };
     }
     let next = run_bytes(
+        streams,
         run,
         text,
         arena,
@@ -210,6 +225,7 @@ fn serve_some(
 
 // Nothing says that the input ends, so the reads are counted down, from a number that no run uses up. A last line may lack its line feed.
 fn serve(
+    streams: &mut Streams,
     text: &mut [u8],
     arena: &mut [u8],
     undo: &mut [u8],
@@ -237,23 +253,24 @@ fn serve(
     };
     let mut turns = u64::MAX;
     while turns > 0 {
-        if !served.more {
+        if !served.more || streams.has_failed() {
             break;
         }
         served = serve_some(
-            served.run, text, arena, undo, ids, id, name, list, file, line, out, input,
+            streams, served.run, text, arena, undo, ids, id, name, list, file, line, out, input,
         );
         turns -= 1;
     }
     let last = served.run;
     if last.held > 0 {
         run_line(
-            last, text, arena, undo, ids, id, name, list, file, line, out,
+            streams, last, text, arena, undo, ids, id, name, list, file, line, out,
         );
     }
 }
 
-fn main() {
+fn main(rt: HostRuntime) -> io::Result<()> {
+    let mut streams = Streams::new(&rt);
     let mut text = [0u8; Console::TEXT_MAX];
     let mut arena = [0u8; Config::ARENA_SIZE];
     let mut undo = [0u8; Config::UNDO_SIZE];
@@ -264,9 +281,20 @@ fn main() {
     let mut file = [0u8; Console::FILE_ROOM];
     let mut line = [0u8; HELD_MAX];
     let mut out = [0u8; Console::OUT_ROOM];
-    let mut input = io::large_buffer();
+    let mut input = [0u8; INPUT_ROOM];
     serve(
-        &mut text, &mut arena, &mut undo, &mut ids, &mut id, &mut name, &mut list, &mut file,
-        &mut line, &mut out, &mut input,
+        &mut streams,
+        &mut text,
+        &mut arena,
+        &mut undo,
+        &mut ids,
+        &mut id,
+        &mut name,
+        &mut list,
+        &mut file,
+        &mut line,
+        &mut out,
+        &mut input,
     );
+    streams.outcome()
 }

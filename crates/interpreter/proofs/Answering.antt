@@ -1,10 +1,7 @@
 -- From what a call gave to what its line gives.
-use Rattle.std.proofs.Common.{◌≡◌, ℕ, ◌≤◌, true, false, ◌&&◌, leb, List, [], ◌∷◌, ◌++◌, length, take, sym, refl, ap, ◌∙◌, subst, arith}
-use types.Run.{OneOf, miss}
-use denote.Enum.Declared.{tag_of}
+use Rattle.std.proofs.Common.{◌≡◌, ℕ, ◌≤◌, true, false, ◌&&◌, leb, List, [], ◌++◌, length, take, sym, refl, ap, ◌∙◌, subst, arith}
 use Rattle.state.specs.declared.state.Called.{Called}
 use Rattle.state.specs.declared.state.State.{State}
-use Rattle.upload.specs.Upload as upload
 use Rattle.actions.specs.Actions as actions
 use Rattle.work.specs.Work as work
 use Rattle.script.specs.Hex.{is_hex, hex_bytes}
@@ -21,7 +18,6 @@ use Rattle.script.specs.declared.command.Command.TheVariants.{
   Unreadable,
 }
 use Rattle.script.specs.declared.command.Host.{Host}
-use Rattle.script.specs.contracts.command.Command.{the_type}
 use Rattle.script.specs.declared.command.Request.{Request}
 use Rattle.answers.specs.Answers.{verdict_line, bad_line}
 use Rattle.answers.specs.Written.{written, writing}
@@ -107,10 +103,9 @@ unfolding start_line
 start-session n mode h id = refl
 
 -- before a start-up has succeeded, no other command is read
-pub off-bad :
-    (n : ℕ) (line : List ℕ) (c : Command) → OneOf (1 ∷ 2 ∷ 3 ∷ 4 ∷ 5 ∷ 6 ∷ 7 ∷ 8 ∷ []) (tag_of the_type c) → off_line n line c ≡ bad n off
+pub off-bad : (n : ℕ) (line : List ℕ) (c : Command) → ((h : Host) → c ≡ Start h → ⊥) → off_line n line c ≡ bad n off
 unfolding off_line
-off-bad n line (Start h) other = absurd (miss (1 ∷ 2 ∷ 3 ∷ 4 ∷ 5 ∷ 6 ∷ 7 ∷ 8 ∷ []) 0 tt other)
+off-bad n line (Start h) other = absurd (other h refl)
 off-bad n line Upload other = refl
 off-bad n line Get other = refl
 off-bad n line Listing other = refl

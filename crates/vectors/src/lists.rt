@@ -1,5 +1,6 @@
 // The symbol list of document 01.
 use super::print;
+use std::io;
 use symbols::Found;
 
 // Its 33 bytes: one name and its address.
@@ -7,24 +8,25 @@ pub(crate) const EXAMPLE: [u8; 33] =
     *b"\x00\x00\x00\x1d\x01\x00\x01\xff\xff\x82\xd0\x80\x13\x96\x3c\x11xen_extra_version";
 
 // What a lookup finds, and how many entries it compares.
-fn lookup(label: &[u8], bytes: &[u8], name: &[u8]) {
+fn lookup(rt: &impl Print, label: &[u8], bytes: &[u8], name: &[u8]) -> io::Result<()> {
     let search = symbols::find(bytes, name);
     let found = search.found;
     match found {
-        Found::Address(a) => print::number(label, a),
-        Found::Nothing => print::word(label, b"not in the list"),
+        Found::Address(a) => print::number(rt, label, a)?,
+        Found::Nothing => print::word(rt, label, b"not in the list")?,
     }
-    print::number(b"entries compared", search.compared as u64);
+    print::number(rt, b"entries compared", search.compared as u64)
 }
 
-pub(crate) fn all() {
+pub(crate) fn all(rt: &impl Print) -> io::Result<()> {
     let one = EXAMPLE;
-    print::number(b"the list's verdict", symbols::check(&one).code());
-    lookup(b"xen_extra_version", &one, b"xen_extra_version");
-    lookup(b"xen_extra", &one, b"xen_extra");
+    print::number(rt, b"the list's verdict", symbols::check(&one).code())?;
+    lookup(rt, b"xen_extra_version", &one, b"xen_extra_version")?;
+    lookup(rt, b"xen_extra", &one, b"xen_extra")?;
     lookup(
+        rt,
         b"the example without its last byte",
         &one[0..32],
         b"xen_extra_version",
-    );
+    )
 }

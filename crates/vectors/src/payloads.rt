@@ -4,6 +4,7 @@ use machine::host::Host;
 use machine::processor::Processor;
 use prepare::prepare::Prepared;
 use records::payload::{Edit, Payload};
+use std::io;
 
 const FILE_SIZE: usize = 1176;
 
@@ -67,52 +68,53 @@ fn prepared(file: &[u8; FILE_SIZE], image: &mut [u8; Payload::PLACED_MAX]) -> Pr
     prepare::prepare::prepare(file, &list, host(), image)
 }
 
-fn edit(one: Edit) {
-    print::number(b"offset of the first edit", one.offset as u64);
-    print::number(b"length of the first edit", one.length as u64);
+fn edit(rt: &impl Print, one: Edit) -> io::Result<()> {
+    print::number(rt, b"offset of the first edit", one.offset as u64)?;
+    print::number(rt, b"length of the first edit", one.length as u64)
 }
 
-fn answer(one: Prepared) {
+fn answer(rt: &impl Print, one: Prepared) -> io::Result<()> {
     let verdict = one.verdict;
     let edits = one.edits;
-    print::number(b"the payload's verdict", verdict.code());
-    print::number(b"placed bytes", one.placed);
-    print::number(b"edits", one.edit_count as u64);
-    edit(edits[0]);
+    print::number(rt, b"the payload's verdict", verdict.code())?;
+    print::number(rt, b"placed bytes", one.placed)?;
+    print::number(rt, b"edits", one.edit_count as u64)?;
+    edit(rt, edits[0])
 }
 
-fn front(image: &[u8; Payload::PLACED_MAX]) {
-    print::first(b"first bytes of the slot", image, 16);
+fn front(rt: &impl Print, image: &[u8; Payload::PLACED_MAX]) -> io::Result<()> {
+    print::first(rt, b"first bytes of the slot", image, 16)
 }
 
-fn accepted() {
+fn accepted(rt: &impl Print) -> io::Result<()> {
     let file = FILE;
     let mut image = [0u8; Payload::PLACED_MAX];
-    answer(prepared(&file, &mut image));
-    front(&image);
+    answer(rt, prepared(&file, &mut image))?;
+    front(rt, &image)
 }
 
-fn verdict(label: &[u8], file: &[u8; FILE_SIZE]) {
+fn verdict(rt: &impl Print, label: &[u8], file: &[u8; FILE_SIZE]) -> io::Result<()> {
     let mut image = [0u8; Payload::PLACED_MAX];
     let one = prepared(file, &mut image);
     let verdict = one.verdict;
-    print::number(label, verdict.code());
+    print::number(rt, label, verdict.code())
 }
 
 // The verdict where byte `at` of the file is `x`.
-fn changed(label: &[u8], at: usize, x: u8) {
+fn changed(rt: &impl Print, label: &[u8], at: usize, x: u8) -> io::Result<()> {
     let mut file = FILE;
     if at < FILE_SIZE {
         file[at] = x;
-        verdict(label, &file);
+        verdict(rt, label, &file)?;
     }
+    Ok(())
 }
 
-pub(crate) fn all() {
-    accepted();
-    changed(b"e_machine 3", 0x12, 3);
-    changed(b"section 3 of type 5", 0x29c, 5);
-    changed(b"section 6, a note with a name of 5 bytes", 0xa8, 5);
-    changed(b"section 5, entry 1 of type 3", 0x158, 3);
-    changed(b"record 0 of version 2", 0x88, 2);
+pub(crate) fn all(rt: &impl Print) -> io::Result<()> {
+    accepted(rt)?;
+    changed(rt, b"e_machine 3", 0x12, 3)?;
+    changed(rt, b"section 3 of type 5", 0x29c, 5)?;
+    changed(rt, b"section 6, a note with a name of 5 bytes", 0xa8, 5)?;
+    changed(rt, b"section 5, entry 1 of type 3", 0x158, 3)?;
+    changed(rt, b"record 0 of version 2", 0x88, 2)
 }

@@ -1,48 +1,47 @@
 // One line to standard output: a label, a colon, and a result.
-use libc::STDOUT_FILENO;
+use std::io;
 
-fn start(label: &[u8]) {
-    io::write_all(STDOUT_FILENO, label);
-    io::write_all(STDOUT_FILENO, b":");
+fn start(rt: &impl Print, label: &[u8]) -> io::Result<()> {
+    rt.write_all(label)?;
+    print!(rt; ":")
 }
 
-fn end() {
-    io::write_all(STDOUT_FILENO, b"\n");
+fn end(rt: &impl Print) -> io::Result<()> {
+    println!(rt)
 }
 
-pub(crate) fn word(label: &[u8], text: &[u8]) {
-    start(label);
-    io::write_all(STDOUT_FILENO, b" ");
-    io::write_all(STDOUT_FILENO, text);
-    end();
+pub(crate) fn word(rt: &impl Print, label: &[u8], text: &[u8]) -> io::Result<()> {
+    start(rt, label)?;
+    print!(rt; " ")?;
+    rt.write_all(text)?;
+    end(rt)
 }
 
-pub(crate) fn number(label: &[u8], n: u64) {
-    start(label);
-    io::write_all(STDOUT_FILENO, b" ");
-    io::print_decimal(STDOUT_FILENO, n);
-    end();
+pub(crate) fn number(rt: &impl Print, label: &[u8], n: u64) -> io::Result<()> {
+    start(rt, label)?;
+    print!(rt; " {n}")?;
+    end(rt)
 }
 
 // A byte as two hexadecimal digits.
-fn byte(x: u8) {
-    io::write_all(STDOUT_FILENO, b" ");
-    io::print_hex(STDOUT_FILENO, x as u64, 2);
+fn byte(rt: &impl Print, x: u8) -> io::Result<()> {
+    print!(rt; " {x:02x}")
 }
 
-pub(crate) fn bytes(label: &[u8], s: &[u8]) {
-    start(label);
+pub(crate) fn bytes(rt: &impl Print, label: &[u8], s: &[u8]) -> io::Result<()> {
+    start(rt, label)?;
     let mut i = 0;
     while i < s.len() {
-        byte(s[i]);
+        byte(rt, s[i])?;
         i += 1;
     }
-    end();
+    end(rt)
 }
 
 // The first n bytes, where there are as many.
-pub(crate) fn first(label: &[u8], s: &[u8], n: usize) {
+pub(crate) fn first(rt: &impl Print, label: &[u8], s: &[u8], n: usize) -> io::Result<()> {
     if n <= s.len() {
-        bytes(label, &s[0..n]);
+        bytes(rt, label, &s[0..n])?;
     }
+    Ok(())
 }
