@@ -10,7 +10,7 @@ use Rattle.upload.proofs.upload.upload.Statement.{statement}
 use Rattle.upload.proofs.upload.upload.Tie as tie
 
 -- what the call was lent and asked
-module _ (c : tie.After-room-for) where
+module _ (c : tie.After-room_for-place) where
   abbrev start : tie.Start
   start = c.before.before.before.before.before.before
 
@@ -20,72 +20,44 @@ module _ (c : tie.After-room-for) where
   abbrev asked : Request
   asked = request start.args.name.now start.args.list.now start.args.file.now
 
-returns : tie.Need-returns
-returns c =
-    let finding = c.before.before.before in
-    uploads _ _ _ (refused-request _ (given finding) (asked finding) finding.room_for.ensures c.before.found.given.1)
+returns-in-Refuse : tie.Need-returns-in-Refuse
+returns-in-Refuse c = uploads _ _ _ (refused-request _ (given c.before) (asked c.before) c.room_for-place.ensures c.in-Refuse.is)
 
-prepare-in-requires : tie.Need-prepare-in-requires
-prepare-in-requires c κs =
-    let roomy = c.before.before in
-    let finding = roomy.before.before in
-    let a = start finding in
+prepare_in-prepared-requires : tie.Need-prepare_in-prepared-requires
+prepare_in-prepared-requires c κs = let a = start c.before.before.before in
     let can =
-    ready _ (given finding) (asked finding) finding.room_for.ensures roomy.enum_told.given.1 (whole a.args.state _ a.good.0) refl in
+    ready _ (given c.before.before.before) (asked c.before.before.before) c.room_for-place.ensures c.in_default.is (whole a.args.state _ a.good.0) refl in
     (can.0, omega (arith, can.1), can.2)
 
 -- the payload was prepared for the slot
-module _ (c : tie.After-prepare-in) where
-  abbrev roomy : tie.After-enum-told
+module _ (c : tie.After-prepare_in-prepared) where
+  abbrev roomy : tie.In_default
   roomy = c.before.before.before
 
   abbrev finding : tie.After-room-for
   finding = roomy.before.before
 
-returns-2 : tie.Need-returns-2
-returns-2 c =
-    let preparing = c.before.before.before.before.before in
-    let here = finding preparing in
+returns-in-Refuse-verdict : tie.Need-returns-in-Refuse-verdict
+returns-in-Refuse-verdict c = let here = finding c.before.before.before in
     uploads _ _ _
-    (refused-payload _ (given here) (asked here) here.room_for.ensures (roomy preparing).enum_told.given.1 refl preparing.prepare-in.ensures
-    c.before.verdict.given.1)
+    (refused-payload _ (given here) (asked here) here.room_for.ensures (roomy c.before.before.before).enum_told.given.1 refl c.prepare_in-prepared.ensures
+    c.in-Refuse-verdict.is)
 
-enter-requires : tie.Need-enter-requires
-enter-requires c κs =
-    let accepting = c.before in
-    let preparing = accepting.before.before.before.before in
-    let here = finding preparing in
+enter-next-requires : tie.Need-enter-next-requires
+enter-next-requires c κs = let here = finding c.before.before.before.before in
     let can =
-    enterable _ (given here) (asked here) here.room_for.ensures (roomy preparing).enum_told.given.1 refl preparing.prepare-in.ensures
-    accepting.enum-told2.given.1 in
+    enterable _ (given here) (asked here) here.room_for.ensures (roomy c.before.before.before.before).enum_told.given.1 refl c.prepare_in-prepared.ensures
+    c.in_default-verdict.is in
     ((can.0.0, omega (arith, can.0.1), can.0.2), can.1)
 
-returns-3 : tie.Need-returns-3
-returns-3 c =
-    let entering = c.before.before in
-    let accepting = entering.before.before in
-    let preparing = accepting.before.before.before.before in
-    let here = finding preparing in
+returns : tie.Need-returns
+returns c = let here = finding c.before.before.before.before.before.before.before in
     uploads _ _ _
-    (accepted _ (given here) (asked here) here.room_for.ensures (roomy preparing).enum_told.given.1 refl preparing.prepare-in.ensures
-    accepting.enum-told2.given.1
-    entering.enter.ensures.0
-    entering.enter.ensures.1)
+    (accepted _ (given here) (asked here) here.room_for.ensures (roomy c.before.before.before.before.before.before.before).enum_told.given.1 refl c.prepare_in-prepared.ensures
+    c.in_default-verdict.is
+    c.enter-next.ensures.0
+    c.enter-next.ensures.1)
 
-pub upload-spec : {M : Type 1} → statement M
-upload-spec =
-    tie.close
-    (tie.spec
-    (λ c κs. search rules)
-    (λ c. search rules)
-    returns
-    (λ c. search rules)
-    prepare-in-requires
-    (λ c. search rules)
-    (λ c. search rules)
-    returns-2
-    (λ c. search rules)
-    enter-requires
-    (λ c. search rules)
-    (λ c. search rules)
-    returns-3)
+pub upload_spec : {M : Type 1} → statement M
+upload_spec =
+    tie.close (tie.spec (λ c κs. search rules) (λ c. search rules) returns-in-Refuse (λ c. search rules) prepare_in-prepared-requires (λ c. search rules) (λ c. search rules) returns-in-Refuse-verdict (λ c. search rules) enter-next-requires (λ c. search rules) (λ c. search rules) returns)
