@@ -35,7 +35,7 @@ use borrow.Author.Rules.{rules}
 use Rattle.audit.proofs.preparing.prepare_payload.Statement.{statement}
 use Rattle.audit.proofs.preparing.prepare_payload.Tie as tie
 
-module _ (c : tie.After-refused) where
+module _ (c : tie.After-refused-bad) where
   abbrev start : tie.Start
   start = c.before.before.before.before.before.before
 
@@ -51,52 +51,44 @@ module _ (c : tie.After-refused) where
 
   -- 22, nowhere, with the buffers as they were
   invalid :
-      {answer : ℕ} → answer ≡ verdict_code c.refused.result → call_of aim file-of lent ≡ refused_call lent (refusal Invalid Nowhere) →
+      {answer : ℕ} → answer ≡ verdict_code c.refused-bad.result → call_of aim file-of lent ≡ refused_call lent (refusal Invalid Nowhere) →
       Answers aim file-of lent (left answer lent)
   invalid told call =
-      answers aim file-of lent (ap (λ (n : ℕ). left n lent) (told ∙ ap verdict_code c.refused.ensures) ∙ sym call)
+      answers aim file-of lent (ap (λ (n : ℕ). left n lent) (told ∙ ap verdict_code c.refused-bad.ensures) ∙ sym call)
 
-returns : tie.Need-returns
-returns c =
-    let sizing = c.before.before in
-    invalid sizing.before c.code.ensures (wrong-call _ _ _ (rw (refuted sizing.buffer-sizes-ok.ensures c.before.if1.true)))
+returns-then-not-buffer_sizes_ok : tie.Need-returns-then-not-buffer_sizes_ok
+returns-then-not-buffer_sizes_ok c = invalid c.before.before.before c.code.ensures (wrong-call _ _ _ (rw (refuted c.buffer_sizes_ok.ensures c.if-not-buffer_sizes_ok.true)))
 
 -- the buffers have their sizes
-module _ (c : tie.Else1) where
-  abbrev begun : tie.After-refused
+module _ (c : tie.Else-not-buffer_sizes_ok) where
+  abbrev begun : tie.After-refused-bad
   begun = c.before.before
 
   sizes : buffers_ok (lent begun) ≡ true
-  sizes = held c.before.buffer-sizes-ok.ensures c.if1.false
+  sizes = held c.buffer_sizes_ok.ensures c.if-not-buffer_sizes_ok.false
 
-returns-2 : tie.Need-returns-2
-returns-2 c =
-    let ranging = c.before.before in
-    let sized = ranging.before in
-    invalid (begun sized) c.code2.ensures
-    (wrong-call _ _ _ (rw (sizes sized, refuted ranging.ranges-ok.ensures c.before.if2.true)))
+returns-then-not-ranges_ok : tie.Need-returns-then-not-ranges_ok
+returns-then-not-ranges_ok c = invalid (begun c.before.before.before) c.code-then-not-ranges_ok.ensures
+    (wrong-call _ _ _ (rw (sizes c.before.before.before, refuted c.ranges_ok.ensures c.if-not-ranges_ok.true)))
 
 -- the sizes and the ranges are right
-module _ (c : tie.Else2) where
-  abbrev sized : tie.Else1
+module _ (c : tie.Else-not-ranges_ok) where
+  abbrev sized : tie.Else-not-buffer_sizes_ok
   sized = c.before.before
 
   ranges : ranges_ok (aim (begun sized)).host ≡ true
-  ranges = held c.before.ranges-ok.ensures c.if2.false
+  ranges = held c.ranges_ok.ensures c.if-not-ranges_ok.false
 
   right : right_call (aim (begun sized)) (lent (begun sized)) ≡ true
   right = rw (sizes sized, ranges)
 
-returns-3 : tie.Need-returns-3
-returns-3 c =
-    let listing = c.before.before in
-    let ranged = listing.before in
-    invalid (begun (sized ranged)) c.code3.ensures
-    (wrong-list _ _ _ (right ranged) (refuted listing.is-valid.ensures c.before.if3.true))
+returns-then-not-is_valid : tie.Need-returns-then-not-is_valid
+returns-then-not-is_valid c = invalid (begun (sized c.before.before.before)) c.code-then-not-is_valid.ensures
+    (wrong-list _ _ _ (right c.before.before.before) (refuted c.is_valid.ensures c.if-not-is_valid.true))
 
 -- what the preparation answered
-module _ (c : tie.After-prepare) where
-  abbrev ranged : tie.Else2
+module _ (c : tie.After-prepare-prepared) where
+  abbrev ranged : tie.Else-not-ranges_ok
   ranged = c.before.before.before.before
 
   -- what it was called with
@@ -110,37 +102,35 @@ module _ (c : tie.After-prepare) where
   given = lent (begun (sized ranged))
 
   abbrev answer : Prepared
-  answer = c.prepare.result
+  answer = c.prepare-prepared.result
 
   abbrev slot : List ℕ
-  slot = c.prepare.new.1.1.1.0
+  slot = c.prepare-prepared.new.image
 
   prepared : outcome answer slot ≡ prepare_of target file given.image
-  prepared = c.prepare.ensures.equal
+  prepared = c.prepare-prepared.ensures.equal
 
   -- the call is decided by its verdict
   called : {v : Verdict} → answer.verdict ≡ v → call_of target file given ≡ decide (refused_call given) (written_of target (outcome answer slot)) v
   called told =
-      let listed = held c.before.before.before.is-valid.ensures c.before.before.if3.false in
+      let listed = held c.is_valid.ensures c.if-not-is_valid.false in
       by-payload target given file (right ranged) listed prepared told
 
-returns-4 : tie.Need-returns-4
-returns-4 c =
-    let preparing = c.before.before.before.before.before.before in
-    let told = c.before.before.verdict.given.1 in
-    let kept = ap (λ (o : Outcome). o.image) (outcome-is _ _ _ (prepared preparing) told) in
-    answers _ _ _ (left-same c.code4.ensures kept refl refl ∙ sym (called preparing told))
+returns-in-Refuse : tie.Need-returns-in-Refuse
+returns-in-Refuse c = let told = c.in-Refuse.is in
+    let kept = ap (λ (o : Outcome). o.image) (outcome-is _ _ _ (prepared c.before.before.before.before) told) in
+    answers _ _ _ (left-same c.code-in-Refuse.ensures kept refl refl ∙ sym (called c.before.before.before.before told))
 
 -- the payload is accepted
-module _ (c : tie.After-enum-told) where
-  abbrev preparing : tie.After-prepare
-  preparing = c.before.before.before.before
+module _ (c : tie.In_default) where
+  abbrev preparing : tie.After-prepare-prepared
+  preparing = c.before.before.before
 
   accepted-rules : prepare_rules (target preparing) (file preparing) (given preparing).image ≡ Pass
-  accepted-rules = prepare-rules _ _ _ (prepared preparing) c.enum_told.given.1
+  accepted-rules = prepare-rules _ _ _ (prepared preparing) c.in_default.is
 
   accepted : answer preparing ≡ accepted_prepared (target preparing) (file preparing)
-  accepted = ap (λ (o : Outcome). o.answer) (outcome-is _ _ _ (prepared preparing) c.enum_told.given.1)
+  accepted = ap (λ (o : Outcome). o.answer) (outcome-is _ _ _ (prepared preparing) c.in_default.is)
 
   -- the edits are few enough, and fit their entries
   abbrev Writable : Prepared → Type 0
@@ -153,48 +143,17 @@ module _ (c : tie.After-enum-told) where
         fitting _ _ _ accepted-rules (text-ends (target preparing).host (ranges (ranged preparing))),
       )
 
-write-edits-requires : tie.Need-write-edits-requires
-write-edits-requires c κs =
-    let done = c.before.before in
-    ((sizes-told _ _ _ (sizes (sized (ranged (preparing done))))).1, (can_write done).0, (can_write done).1)
+write_edits-requires : tie.Need-write_edits-requires
+write_edits-requires c κs = ((sizes-told _ _ _ (sizes (sized (ranged (preparing c.before.before))))).1, (can_write c.before.before).0, (can_write c.before.before).1)
 
-write-summary-requires : tie.Need-write-summary-requires
-write-summary-requires c κs =
-    let done = c.before.before.before.before.before.before.before.before in
-    (sizes-told _ _ _ (sizes (sized (ranged (preparing done))))).2
+write_summary-requires : tie.Need-write_summary-requires
+write_summary-requires c κs = (sizes-told _ _ _ (sizes (sized (ranged (preparing c.before.before.before.before.before.before.before.before))))).2
 
-returns-5 : tie.Need-returns-5
-returns-5 c =
-    let summed = c.before.before in
-    let edited = summed.before.before.before.before.before.before in
-    let done = edited.before.before.before in
-    answers _ _ _
-    (left-same refl refl edited.write-edits.ensures summed.write-summary.ensures
-    ∙ sym (called (preparing done) done.enum_told.given.1))
+returns : tie.Need-returns
+returns c = answers _ _ _
+    (left-same refl refl c.write_edits.ensures c.write_summary.ensures
+    ∙ sym (called (preparing c.before.before.before.before.before.before.before.before.before.before.before) c.in_default.is))
 
-pub prepare-payload-spec : {M : Type 1} → statement M
-prepare-payload-spec =
-    tie.close
-    (tie.spec
-    (λ c κs. search rules)
-    (λ c κs. search rules)
-    (λ c κs. search rules)
-    returns
-    (λ c κs. search rules)
-    (λ c κs. search rules)
-    returns-2
-    (λ c κs. search rules)
-    (λ c κs. search rules)
-    returns-3
-    (λ c κs. search rules)
-    (λ c. search rules)
-    (λ c κs. search rules)
-    (λ c. search rules)
-    returns-4
-    (λ c. search rules)
-    write-edits-requires
-    write-summary-requires
-    (λ c. search rules)
-    (λ c. search rules)
-    (λ c. search rules)
-    returns-5)
+pub prepare_payload_spec : {M : Type 1} → statement M
+prepare_payload_spec =
+    tie.close (tie.spec (λ c κs. search rules) (λ c κs. search rules) (λ c κs. search rules) returns-then-not-buffer_sizes_ok (λ c κs. search rules) (λ c κs. search rules) returns-then-not-ranges_ok (λ c κs. search rules) (λ c κs. search rules) returns-then-not-is_valid (λ c κs. search rules) (λ c. search rules) (λ c κs. search rules) (λ c. search rules) returns-in-Refuse (λ c. search rules) write_edits-requires write_summary-requires (λ c. search rules) (λ c. search rules) (λ c. search rules) returns)

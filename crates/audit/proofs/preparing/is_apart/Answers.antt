@@ -7,9 +7,7 @@ use borrow.Author.Tests.{leb-true, leb-false, le-leb, lt-leb}
 use lib.Dec.{leb}
 use Rattle.records.specs.Limits.{placed_max}
 use Rattle.audit.specs.Preparing.{is_apart}
-use borrow.Author.Rules.{rules}
-use Rattle.audit.proofs.preparing.is_apart.Statement.{statement}
-use Rattle.audit.proofs.preparing.is_apart.Tie as tie
+use Rattle.audit.proofs.preparing.is_apart.Goals as goal
 
 -- n numbers from a on end at b or before, told by the difference
 by_difference : (a b n : ℕ) → a ≤ b → leb n (b - a) ≡ leb (a + n) b
@@ -19,19 +17,13 @@ by_difference a b n h = by-test (leb n (b - a)) refl
     by-test true e = rw (e, le-leb (a + n) b (omega (arith, leb-true n (b - a) e)))
     by-test false e = rw (e, lt-leb (a + n) b (omega (arith, leb-false n (b - a) e)))
 
-returns : tie.Need-returns
+pub returns-then-host : goal.returns-then-host
 unfolding is_apart
-returns c =
-    let first = c.before in
-    let host = first.before.before.before.args.host in
+returns-then-host c = let host = c.args.host in
     by_difference host.text host.slot host.text_length (omega arith)
     ∙ rw (lt-leb (host.slot + placed_max) host.text (omega arith), or-false)
 
-returns-2 : tie.Need-returns-2
+pub returns : goal.returns
 unfolding is_apart
-returns-2 c =
-    let host = c.before.before.before.args.host in
+returns c = let host = c.args.host in
     by_difference host.slot host.text placed_max (omega arith) ∙ rw (lt-leb (host.text + host.text_length) host.slot (omega arith))
-
-pub is-apart-spec : {M : Type 1} → statement M
-is-apart-spec = tie.close (tie.spec returns (λ c. search rules) returns-2)
