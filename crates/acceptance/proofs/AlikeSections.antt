@@ -33,7 +33,7 @@ use Rattle.object.specs.Sections.{
 }
 use Rattle.object.specs.declared.sections.SectionEntry.{SectionEntry}
 use Rattle.object.proofs.SectionLaws.{read-null, read-header, read-typed, consulted-contents, section-in, names-inside, names-typed}
-use Rattle.acceptance.specs.Consulted.{within, in_header, in_section_header, is_read, in_header, in_section_table, in_contents, Alike}
+use Rattle.acceptance.specs.Consulted.{within, in_header, in_section_header, is_read, by_header, by_section_table, by_contents, Alike}
 use Rattle.acceptance.specs.Rules.{section}
 use Rattle.acceptance.proofs.Parts.{number-alike, contents-alike, cond-alike, filled-alike}
 use Rattle.acceptance.proofs.ReadSections.{strings-read}
@@ -76,7 +76,7 @@ module _ (a b : List ℕ) (alike : Alike a b) where
 
   -- a field in one of the four ranges of it that are consulted
   field : (n at : ℕ) → ((p : ℕ) → at ≤ p → p < at + n → in_header p ≡ true) → le_at n a at ≡ le_at n b at
-  field n at inside = number-alike a b alike.size n at λ p low high. alike.same p (in_header (inside p low high))
+  field n at inside = number-alike a b alike.size n at λ p low high. alike.same p (by_header (inside p low high))
 
   ident : (n at : ℕ) → at + n ≤ 7 → le_at n a at ≡ le_at n b at
   ident n at h = field n at λ p low high. simp (le-leb 0 p (omega arith), lt-ltb p 7 (omega arith))
@@ -132,7 +132,7 @@ module _ (a b : List ℕ) (alike : Alike a b) where
         (n q : ℕ) → ((x : ℕ) → q ≤ x → x < q + n → in_section_header (header_at a i) x ≡ true) →
         le_at n a (start + q) ≡ le_at n b (start + q)
     at-alike n q inside = number-alike a b alike.size n (start + q) λ p low high.
-        alike.same p (in_section_table i (p - start) below (omega arith) (inside (p - start) (omega arith) (omega arith)))
+        alike.same p (by_section_table i (p - start) below (omega arith) (inside (p - start) (omega arith) (omega arith)))
 
     -- the type
     type-at-alike : le_at 4 a (start + 4) ≡ le_at 4 b (start + 4)
@@ -206,7 +206,7 @@ module _ (a b : List ℕ) (alike : Alike a b) where
       (i : ℕ) → i < section_count a → is_read (sections a) (section a i) ≡ true →
       contents_of a (section a i).header ≡ contents_of b (section a i).header
   read_alike i below read =
-      contents-alike a b alike.size (section a i).header λ p low high. alike.same p (in_contents i below read low high)
+      contents-alike a b alike.size (section a i).header λ p low high. alike.same p (by_contents i below read low high)
 
   -- ---- the sections
 

@@ -39,11 +39,11 @@ is_read ss s = has_contents s || is_note_kind s.kind || is_kind s.kind Symbols |
 
 -- byte p of the file is consulted
 pub data Consulted (file : List ℕ) (p : ℕ) : Type 0 where
-  in_header : in_header p ≡ true → Consulted file p
-  in_section_table :
+  by_header : in_header p ≡ true → Consulted file p
+  by_section_table :
       (i q : ℕ) → i < section_count file → p ≡ (file_header_of file).e_shoff + section_header_size * i + q →
       in_section_header (header_at file i) q ≡ true → Consulted file p
-  in_contents :
+  by_contents :
       (i : ℕ) → i < section_count file → is_read (sections file) (section file i) ≡ true →
       (section file i).header.sh_offset ≤ p → p < (section file i).header.sh_offset + (section file i).header.sh_size →
       Consulted file p

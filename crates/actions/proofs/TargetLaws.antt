@@ -26,9 +26,9 @@ module _ (s : State) (name : List ℕ) where
 
   module _ (command : ℕ) where
     -- where the rules pass, one is found
-    is_found : target_rules s name command ≡ Pass → is_found (with_name s name) ≡ true
+    found_there : target_rules s name command ≡ Pass → is_found (with_name s name) ≡ true
     unfolding target_rules
-    is_found pass = must-pass _ _ _ (then-pass _ _ (then-pass (must (is_name name) 22 Nowhere) _ pass).1).0
+    found_there pass = must-pass _ _ _ (then-pass _ _ (then-pass (must (is_name name) 22 Nowhere) _ pass).1).0
 
     target_told : Told (λ t. t.verdict) refused_target (record { verdict = Pass; place = place_of (with_name s name) })
     target_told = record { refusing = λ r. refl; accepting = refl }
@@ -43,7 +43,7 @@ module _ (s : State) (name : List ℕ) where
       unfolding target_of
       target-place told =
           let place = ap (λ (u : Target). u.place) (answer-told _ _ _ target_told (target_rules s name command) Pass answer told) in
-          rw place (at_place (with_name s name) (is_found (target-rules told)))
+          rw place (at_place (with_name s name) (found_there (target-rules told)))
         where
           at_place : (f : Found) → is_found f ≡ true → f ≡ At (place_of f)
           at_place (At i) h = refl

@@ -1,4 +1,6 @@
 // The bytes that the C boundary writes of a prepared payload.
+#![tactic(auto)]
+
 ghost use Rattle.std.specs.Prelude.{◌≡◌, ◌+◌, ◌<◌, ◌≤◌, ◌^◌, length};
 ghost use Rattle.words.specs.Splice.{splice};
 ghost use Rattle.records.specs.Limits.{records_max, id_max};

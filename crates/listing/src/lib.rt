@@ -1,4 +1,6 @@
 // The list of payloads, in upload order.
+#![tactic(auto)]
+
 ghost use Rattle.std.specs.Prelude.{◌≡◌, ◌+◌, ◌*◌, ◌≤◌, min, length};
 ghost use Rattle.words.specs.Splice.{part, splice};
 ghost use Rattle.records.specs.Limits.{name_max};

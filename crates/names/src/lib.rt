@@ -1,4 +1,6 @@
 // Payloads by name.
+#![tactic(auto)]
+
 ghost use Rattle.std.specs.Prelude.{◌≡◌, true, ◌≤◌};
 ghost use Rattle.records.specs.Limits.{name_max};
 ghost use Rattle.state.specs.Find.{is_named, with_name};

@@ -87,6 +87,7 @@ fn records_size_ok(h: SectionHeader) -> bool
 }
 
 // One type 2 section with a right header, one of each of the three names, and a right number of records.
+#[tactic(auto, unfolding(crate::specs::Counts::count_rules))]
 pub(crate) fn check_counts(table: [SectionEntry; Payload::SECTIONS_MAX], count: usize) -> Verdict
     requires { count ≤ sections_max }
     ensures { result ≡ count_rules table count }

@@ -9,6 +9,7 @@ use records::payload::Payload;
 use records::refusal::{Place, Reason, Verdict};
 
 // Whether relocations may be made in this section, or it is ignored with them.
+#[tactic(auto, unfolding(crate::specs::RelocationHeaders::is_target))]
 fn is_target(s: SectionEntry) -> bool
     ensures { result ≡ is_target s }
 {

@@ -45,8 +45,8 @@ module _ (l : Linking) (area : Area) (r : Relocation) where
         checked-inside value ((rule_of f).fault value)
     symbol-inside (Refused reason) = tt
 
-  in_field : (f : FieldType) → LiesIn area (in_field l area r f)
-  in_field f = by_cases (field_ok l area r f) refl
+  in_field-inside : (f : FieldType) → LiesIn area (in_field l area r f)
+  in_field-inside f = by_cases (field_ok l area r f) refl
     where
       by_cases : (ok : Bool) → field_ok l area r f ≡ ok → LiesIn area (in_field l area r f)
       by_cases true e = rw e (symbol-inside f (fits-inside f e) (symbol_value l r.r_symbol))
@@ -54,7 +54,7 @@ module _ (l : Linking) (area : Area) (r : Relocation) where
 
   by-type : (t : RelocationType) → LiesIn area (by_type l area r t)
   by-type Nothing = tt
-  by-type (Stores f) = in_field f
+  by-type (Stores f) = in_field-inside f
   by-type Unknown = tt
 
   pub field-inside : (m : Machine) → LiesIn area (field_of m l area r)

@@ -2,22 +2,22 @@
 use Prim.Native.Nat.{ℕ, zero, suc, ◌+◌, ◌*◌, ◌-◌, ◌≤◌, ◌<◌}
 use mathlib.Core.Path.{◌≡◌, refl, sym, ◌∙◌}
 use mathlib.Core.Bool.{Bool, true, false, cond, not, ◌&&◌}
-use mathlib.Core.List.{List, [], ◌∷◌}
+use mathlib.Core.List.{List}
 use native.Mathlib.Numerals.{add-one}
 use native.Mathlib.Omega.{arith}
-use denote.Enum.Declared.{tag_of}
 use lib.ListN.{length, get_or, length-take, length-drop}
-use types.Run.{OneOf, miss}
 use Rattle.words.specs.Splice.{part}
 use Rattle.words.proofs.Splice.{length_part, length-splice}
 use Rattle.words.proofs.Tests.{both}
 use Rattle.records.specs.Limits.{placed_max, sections_max}
+use Rattle.records.specs.declared.refusal.Reason.{Reason}
 use Rattle.records.specs.declared.refusal.Verdict.{Verdict}
 use Rattle.records.specs.declared.refusal.Verdict.TheVariants.{Pass, Refuse}
 use Rattle.elf.specs.Layout.{relocation_size, relocation_of}
 use Rattle.elf.specs.declared.SectionHeader.{SectionHeader}
 use Rattle.machine.specs.Host.{rule_of, host_machine}
 use Rattle.machine.specs.Machine.{Machine}
+use Rattle.machine.specs.declared.fields.FieldType.{FieldType}
 use Rattle.machine.specs.declared.host.Host.{Host}
 use Rattle.machine.proofs.Laws.{length-field}
 use Rattle.kinds.specs.Kinds.{is_kind}
@@ -57,22 +57,21 @@ use Rattle.relocation.specs.Relocating.{
 use Rattle.relocation.specs.declared.fields.Area.{Area}
 use Rattle.relocation.specs.declared.fields.Field.{Field}
 use Rattle.relocation.specs.declared.fields.Field.TheVariants.{Store, Skip, Fault}
-use Rattle.relocation.specs.contracts.fields.Field.{the_type}
 use Rattle.relocation.proofs.FieldLaws.{field_fits}
 
 -- ---- one field
 
 -- where the field is none that is stored
-pub nothing_stored : (image : List ℕ) (f : Field) → OneOf (1 ∷ 2 ∷ []) (tag_of the_type f) → store_in image f ≡ image
-nothing_stored image (Store at f value) h = absurd (miss (1 ∷ 2 ∷ []) 0 tt h)
+pub nothing_stored : (image : List ℕ) (f : Field) → ((at : ℕ) (t : FieldType) (value : ℕ) → f ≡ Store at t value → ⊥) → store_in image f ≡ image
+nothing_stored image (Store at t value) h = absurd (h at t value refl)
 nothing_stored image Skip h = refl
 nothing_stored image (Fault reason) h = refl
 
 -- where it is none that is refused
-pub no-fault : (f : Field) (i e : ℕ) → OneOf (0 ∷ 1 ∷ []) (tag_of the_type f) → field_verdict f i e ≡ Pass
-no-fault (Store at f value) i e h = refl
+pub no-fault : (f : Field) (i e : ℕ) → ((reason : Reason) → f ≡ Fault reason → ⊥) → field_verdict f i e ≡ Pass
+no-fault (Store at t value) i e h = refl
 no-fault Skip i e h = refl
-no-fault (Fault reason) i e h = absurd (miss (0 ∷ 1 ∷ []) 2 tt h)
+no-fault (Fault reason) i e h = absurd (h reason refl)
 
 length-stored : (image : List ℕ) (f : Field) → FieldFits f (length image) → length (store_in image f) ≡ length image
 length-stored image (Store at f value) h =
@@ -104,10 +103,6 @@ module _ (m : Machine) (l : Linking) (area : Area) (entries : List ℕ) (e n : �
 pub relocating-kind : (ss : List SectionEntry) (s : SectionEntry) → is_relocating ss s ≡ true → is_kind s.kind Relocations ≡ true
 unfolding is_relocating
 relocating-kind ss s e = (both _ _ e).0
-
--- the numbers of the kinds but Relocations
-unfoldable pub no-relocations : List ℕ
-no-relocations = 0 ∷ 1 ∷ 2 ∷ 3 ∷ 4 ∷ 5 ∷ 6 ∷ 7 ∷ 9 ∷ 10 ∷ []
 
 -- the target, as the code looks for it
 module _ (ss : List SectionEntry) (s : SectionEntry) where

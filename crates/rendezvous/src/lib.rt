@@ -1,4 +1,6 @@
 // The rendezvous of a job: CPUs report, ticks pass.
+#![tactic(auto)]
+
 ghost use Rattle.std.specs.Prelude.{◌≡◌, true, ◌≤◌, take};
 ghost use Rattle.words.specs.Find.{every};
 ghost use Rattle.memory.specs.Config.{cpus_max};

@@ -1,3 +1,5 @@
 // Report and tick made in the records buffer: the state is not loaded, and only the bytes that change are written.
+#![tactic(auto)]
+
 pub(crate) mod change;
 pub mod reporting;

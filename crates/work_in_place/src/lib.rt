@@ -1,4 +1,6 @@
 // A work step made in the records buffer: the state is not loaded, and only the bytes that change are written.
+#![tactic(auto)]
+
 pub(crate) mod change;
 pub(crate) mod end;
 pub mod working;

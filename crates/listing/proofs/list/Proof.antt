@@ -16,60 +16,39 @@ use Rattle.listing.proofs.list.Tie as tie
 abbrev lent : tie.Start → Buffers
 lent c = buffers c.args.statuses.now c.args.names.now c.args.lengths.now
 
-returns : tie.Need-returns
-returns c =
-    let checked = c.before.before in
-    let a = checked.before.before.before.before in
-    refuses a.args.state a.args.idx a.args.nr (lent a) checked.check.ensures c.enum-told2.given.1
+returns-in_default : tie.Need-returns-in_default
+returns-in_default c = refuses c.args.state c.args.idx c.args.nr (lent c.before.before.before.before.before) c.check-verdict.ensures c.in_default.is
 
-module _ (c : tie.After-enum-told) where
+module _ (c : tie.In-Pass) where
   abbrev start : tie.Start
-  start = c.before.before.before.before.before.before
+  start = c.before.before.before.before.before
 
   accepted : Asked start.args.state start.args.idx start.args.nr (length (lent start).statuses) (length (lent start).names) (length (lent start).lengths)
-  accepted = asked _ _ _ _ _ _ (sym c.before.before.check.ensures ∙ c.enum_told.given.1)
+  accepted = asked _ _ _ _ _ _ (sym c.check-verdict.ensures ∙ c.in-Pass.is)
 
   few : start.args.state.count ≤ slot_count
-  few = (in-range (whole start.args.state _ start.good.0) accepted.ranges).few
+  few = (in-range (whole start.args.state _ start.well_formed.0) accepted.ranges).few
 
-write-entries-requires : tie.Need-write-entries-requires
-write-entries-requires c κs =
-    let passed = c.before.before.before.before.before in
-    let a = accepted passed in (
-      omega (arith, a.inside),
-      few passed,
-      omega (arith, a.room.in_statuses),
-      omega (arith, a.room.in_names),
-      omega (arith, a.room.in_lengths),
-    )
+write_entries-requires : tie.Need-write_entries-requires
+write_entries-requires c κs = let a = accepted c.before.before.before.before.before in (
+  omega (arith, a.inside),
+  few c.before.before.before.before.before,
+  omega (arith, a.room.in_statuses),
+  omega (arith, a.room.in_names),
+  omega (arith, a.room.in_lengths),
+)
 
-cast-left : tie.Need-cast-left
-cast-left c = omega (arith, few c.before.before.before.before.before.before.before.before.before.before.before.before)
+overflow_cast-left : tie.Need-overflow_cast-left
+overflow_cast-left c = omega (arith, few c.before.before.before.before.before.before.before.before.before.before.before.before)
 
-returns-2 : tie.Need-returns-2
-returns-2 c =
-    let written = c.before.before.before.before.before.before in
-    let counted = written.before.before.before.before in
-    let passed = counted.before.before in
-    let a = start passed in
-    accepts a.args.state a.args.idx a.args.nr (lent a) passed.before.before.check.ensures passed.enum_told.given.1
-    counted.least.ensures written.write_entries.ensures
+returns : tie.Need-returns
+returns c = let a = start c.before.before.before.before.before.before.before.before.before.before.before.before in
+    accepts a.args.state a.args.idx a.args.nr (lent a) c.check-verdict.ensures c.in-Pass.is
+    c.least-n.ensures c.write_entries.ensures
 
-pub list-spec : {M : Type 1} → statement M
-list-spec =
-    tie.close
-    (tie.spec
-    (λ c κs. search rules)
-    (λ c. search rules)
-    (λ c. search rules)
-    returns
-    (λ c. omega (arith, (accepted c.before).inside))
-    (λ c κs. search rules)
-    write-entries-requires
-    (λ c. search rules)
-    (λ c. search rules)
-    cast-left
-    (λ c. search rules)
-    (λ c. search rules)
-    (λ c. search rules)
-    returns-2)
+overflow_sub-there : tie.Need-overflow_sub-there
+overflow_sub-there c = omega (arith, (accepted c.before).inside)
+
+pub list_spec : {M : Type 1} → statement M
+list_spec =
+    tie.close (tie.spec (λ c κs. search rules) (λ c. search rules) (λ c. search rules) returns-in_default overflow_sub-there (λ c κs. search rules) write_entries-requires (λ c. search rules) (λ c. search rules) overflow_cast-left (λ c. search rules) (λ c. search rules) (λ c. search rules) returns)

@@ -1,7 +1,5 @@
 -- `check_notes` meets its contract: at each turn the notes from `i` on say what all of them say.
-use Prim.Native.Nat.{◌-◌}
 use mathlib.Core.Path.{sym, ap, ◌∙◌}
-use mathlib.Core.Logic.{⊎_elim}
 use native.Mathlib.Omega.{arith}
 use Rattle.words.proofs.Scan.{begin, turn, end}
 use Rattle.words.proofs.Tests.{held, refuted}

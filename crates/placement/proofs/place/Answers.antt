@@ -1,7 +1,5 @@
 -- `place` meets its contract: before each turn the sections before `i` are placed.
-use Prim.Native.Nat.{◌-◌}
 use mathlib.Core.Path.{◌≡◌, sym, ap, ◌∙◌}
-use mathlib.Core.Logic.{⊎_elim}
 use native.Mathlib.Omega.{arith}
 use lib.ListN.{length}
 use Rattle.object.specs.Sections.{section_in, no_entry}

@@ -15,72 +15,53 @@ use Rattle.rendezvous.specs.Rendezvous.{tick_rules, ticked, tick_of}
 use Rattle.rendezvous.proofs.tick.Statement.{statement}
 use Rattle.rendezvous.proofs.tick.Tie as tie
 
-returns : tie.Need-returns
+returns-then-not-in_range : tie.Need-returns-then-not-in_range
 unfolding tick_of tick_rules
-returns c =
-    let ranged = c.before in
-    c.refused.ensures ∙ simp (refuted ranged.before.in-range.ensures ranged.if1.taken)
+returns-then-not-in_range c = c.refused.ensures ∙ simp (refuted c.in_range.ensures c.if-not-in_range.true)
 
-returns-2 : tie.Need-returns-2
+returns-then-job-eq0 : tie.Need-returns-then-job-eq0
 unfolding tick_of tick_rules
-returns-2 c =
-    let ranged = c.before.before.before.before in
-    c.refused2.ensures
-    ∙ simp (held ranged.before.in-range.ensures ranged.if1.left, eq-eqb _ _ c.before.if2.taken)
+returns-then-job-eq0 c = c.refused-then-job-eq0.ensures
+    ∙ simp (held c.in_range.ensures c.if-not-in_range.false, eq-eqb _ _ c.if-job-eq0.true)
 
 -- with a job
-module _ (c : tie.Else2) where
+module _ (c : tie.Else-job-eq0) where
   abbrev begun : tie.Start
   begun = c.before.before.before.before.before
 
   ranged : in_range begun.args.state ≡ true
-  ranged = held c.before.before.before.before.in-range.ensures c.before.before.before.if1.left
+  ranged = held c.in_range.ensures c.if-not-in_range.false
 
   passed : called Pass (ticked begun.args.state) ≡ tick_of begun.args.state
   unfolding tick_of tick_rules
-  passed = simp (ranged, ne_eqb _ _ c.if2.left)
+  passed = simp (ranged, ne_eqb _ _ c.if-job-eq0.false)
 
-returns-3 : tie.Need-returns-3
+returns-then-is_complete : tie.Need-returns-then-is_complete
 unfolding ticked
-returns-3 c =
-    ap (λ (t : State). called Pass t) (rw (← c.before.is-complete.ensures, c.if3.taken)) ∙ passed c.before.before
+returns-then-is_complete c = ap (λ (t : State). called Pass t) (rw (← c.is_complete.ensures, c.if-is_complete.true)) ∙ passed c.before.before
 
-returns-4 : tie.Need-returns-4
+returns-then-job-eq1 : tie.Need-returns-then-job-eq1
 unfolding ticked
-returns-4 c =
-    let last = c.before in
-    let loose = last.before.before in
-    ap (λ (t : State). called Pass t)
-    (c.time-out.ensures ∙ rw (← loose.before.is-complete.ensures, loose.if3.left, eq-eqb _ _ last.if4.taken))
-    ∙ passed loose.before.before
+returns-then-job-eq1 c = ap (λ (t : State). called Pass t)
+    (c.time_out-ended.ensures ∙ rw (← c.is_complete.ensures, c.if-is_complete.false, eq-eqb _ _ c.if-job-eq1.true))
+    ∙ passed c.before.before.before.before.before
 
-sub-job : tie.Need-sub-job
-sub-job c =
-    let standing = c.before.before.before.before.before in
-    let start = begun standing in
-    omega (arith, ((in-range (whole start.args.state _ start.good.0) (ranged standing)).job (rw (ne_eqb _ _ standing.if2.left))).timed)
+overflow_sub-job : tie.Need-overflow_sub-job
+overflow_sub-job c = let start = begun c.before.before.before.before.before in
+    omega (arith, ((in-range (whole start.args.state _ start.well_formed.0) (ranged c.before.before.before.before.before)).job (rw (ne_eqb _ _ c.if-job-eq0.false))).timed)
 
-returns-5 : tie.Need-returns-5
+returns : tie.Need-returns
 unfolding ticked
-returns-5 c =
-    let more = c.before in
-    let loose = more.before.before in
-    ap (λ (t : State). called Pass t)
-    (rw (← loose.before.is-complete.ensures, loose.if3.left, ne_eqb _ _ more.if4.left))
-    ∙ passed loose.before.before
+returns c = ap (λ (t : State). called Pass t)
+    (rw (← c.is_complete.ensures, c.if-is_complete.false, ne_eqb _ _ c.if-job-eq1.false))
+    ∙ passed c.before.before.before.before.before
 
-pub tick-spec : {M : Type 1} → statement M
-tick-spec =
-    tie.close
-    (tie.spec
-    (λ c κs. search rules)
-    (λ c κs. search rules)
-    returns
-    (λ c κs. search rules)
-    returns-2
-    (λ c κs. ranged c)
-    returns-3
-    (λ c κs. ranged c.before.before.before.before)
-    returns-4
-    sub-job
-    returns-5)
+is_complete-requires : tie.Need-is_complete-requires
+is_complete-requires c κs = ranged c
+
+time_out-ended-requires : tie.Need-time_out-ended-requires
+time_out-ended-requires c κs = ranged c.before.before.before.before
+
+pub tick_spec : {M : Type 1} → statement M
+tick_spec =
+    tie.close (tie.spec (λ c κs. search rules) (λ c κs. search rules) returns-then-not-in_range (λ c κs. search rules) returns-then-job-eq0 is_complete-requires returns-then-is_complete time_out-ended-requires returns-then-job-eq1 overflow_sub-job returns)

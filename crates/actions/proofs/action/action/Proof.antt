@@ -1,6 +1,5 @@
 -- `action::action` meets its contract: each stage that refuses leaves what the definition says, and else the action is done.
 use Rattle.std.proofs.Common.{◌≡◌, ℕ, ◌<◌, Bool, true, List, length, get_or, sym, ap, ◌∙◌, arith, rules, eq-eqb, ne_eqb}
-use borrow.Author.Tests.{not-true, not-false}
 use Rattle.words.specs.declared.bytes.Found.TheVariants.{At}
 use Rattle.records.specs.Verdict.{decide}
 use Rattle.records.specs.declared.payload.Payload.{Payload}
@@ -22,7 +21,7 @@ use Rattle.actions.proofs.action.action.Tie as tie
 
 module _ (c : tie.Start) where
   abbrev state : State
-  state = c.args.t1
+  state = c.args.state
 
   abbrev build_id : List ℕ
   build_id = c.args.build_id.now
@@ -35,54 +34,50 @@ module _ (c : tie.Start) where
   asked = request c.args.name.now c.args.command c.args.time
 
 -- the sizes were looked at
-module _ (c : tie.After-sizes-ok) where
+module _ (c : tie.After-sizes_ok) where
   abbrev begun : tie.Start
   begun = c.before.before.before.before.before.before
 
-  answered : {b : Bool} → c.sizes-ok.result ≡ b → sizes_right (state begun) (build_id begun) (memory begun) (asked begun) ≡ b
-  answered e = sym c.sizes-ok.ensures ∙ e
+  answered : {b : Bool} → c.sizes_ok.result ≡ b → sizes_right (state begun) (build_id begun) (memory begun) (asked begun) ≡ b
+  answered e = sym c.sizes_ok.ensures ∙ e
 
-returns : tie.Need-returns
-returns c =
-    let start = begun c.before.before in
+returns-then-not-sizes_ok : tie.Need-returns-then-not-sizes_ok
+returns-then-not-sizes_ok c = let start = begun c.before.before in
     ap (λ (r : Called). acted r (memory start)) c.refused.ensures
-    ∙ sym (wrong-sizes _ _ (memory start) (asked start) (answered c.before.before (not-true _ c.before.if1.taken)))
+    ∙ sym (wrong-sizes _ _ (memory start) (asked start) (answered c.before.before (c.if-not-sizes_ok.true)))
 
 -- sizes and numbers are right
-module _ (c : tie.Else1) where
+module _ (c : tie.Else-not-sizes_ok) where
   abbrev start : tie.Start
   start = begun c.before
 
   right : sizes_right (state start) (build_id start) (memory start) (asked start) ≡ true
-  right = answered c.before (not-false _ c.if1.left)
+  right = answered c.before c.if-not-sizes_ok.false
 
   sized : Sized (state start) (length (memory start).arena) (length (memory start).undo) (length (memory start).ids)
   sized = sizes-told (state start) _ _ _ _ right
 
   kept : Whole (state start)
-  kept = whole (state start) _ start.good.0
+  kept = whole (state start) _ start.well_formed.0
 
   ranges : InRange (state start)
   ranges = in-range kept sized.ranges
 
-returns-2 : tie.Need-returns-2
-returns-2 c =
-    let searched = c.before.before.before in
-    let sizing = searched.before in
-    sym
-    (wrong-request (state (start sizing)) _ (memory (start sizing)) (asked (start sizing)) (right sizing)
-    (target-rules (state (start sizing)) _ _ searched.find-target.ensures c.before.found.given.1))
+returns-in-Refuse : tie.Need-returns-in-Refuse
+returns-in-Refuse c = sym
+    (wrong-request (state (start c.before.before)) _ (memory (start c.before.before)) (asked (start c.before.before)) (right c.before.before)
+    (target-rules (state (start c.before.before)) _ _ c.find_target-target.ensures c.in-Refuse.is))
 
 -- the payload is found
-module _ (c : tie.After-enum-told) where
-  abbrev sizing : tie.Else1
-  sizing = c.before.before.before
+module _ (c : tie.In_default) where
+  abbrev sizing : tie.Else-not-sizes_ok
+  sizing = c.before.before
 
   abbrev place : ℕ
-  place = c.before.before.find-target.result.place
+  place = c.find_target-target.result.place
 
   found : with_name (state (start sizing)) (asked (start sizing)).name ≡ At place
-  found = target-place (state (start sizing)) _ _ c.before.before.find-target.ensures c.enum_told.given.1
+  found = target-place (state (start sizing)) _ _ c.find_target-target.ensures c.in_default.is
 
   counted : place < (state (start sizing)).count
   counted = name-hit (state (start sizing)) _ _ found
@@ -93,45 +88,40 @@ module _ (c : tie.After-enum-told) where
   copied : get_or (state (start sizing)).payloads place no_copy ≡ payload_at (state (start sizing)) place
   copied = copied-payload (kept sizing) place inside
 
-check-conditions-requires : tie.Need-check-conditions-requires
-check-conditions-requires c κs =
-    let at = c.before.before in (
-      (sized (sizing at)).ranges,
-      (sized (sizing at)).ids_size,
-      rw (copied at) ((ranges (sizing at)).payloads (place at) (counted at)).dependency_max,
-    )
+check_conditions-verdict-requires : tie.Need-check_conditions-verdict-requires
+check_conditions-verdict-requires c κs = (
+  (sized (sizing c.before)).ranges,
+  (sized (sizing c.before)).ids_size,
+  rw (copied c.before) ((ranges (sizing c.before)).payloads (place c.before) (counted c.before)).dependency_max,
+)
 
 -- its status and the stack were looked at
-module _ (c : tie.After-check-conditions) where
-  abbrev at : tie.After-enum-told
-  at = c.before.before.before
+module _ (c : tie.After-check_conditions-verdict) where
+  abbrev at : tie.In_default
+  at = c.before.before
 
   abbrev from : tie.Start
   from = start (sizing at)
 
   -- the action is decided by the verdict
   decided :
-      {v : Verdict} → c.check-conditions.result ≡ v →
+      {v : Verdict} → c.check_conditions-verdict.result ≡ v →
       action_of (state from) (build_id from) (memory from) (asked from)
       ≡ decide (refused_at (state from) (memory from) (place at)) (done_at (state from) (memory from) (asked from) (place at)) v
   decided told =
       by-conditions (state from) (build_id from) (memory from) (asked from) (right (sizing at))
-      (target-rules (state from) _ _ at.before.before.find-target.ensures at.enum_told.given.1)
+      (target-rules (state from) _ _ at.find_target-target.ensures at.in_default.is)
       (found at)
       (ap (condition_rules (state from) (build_id from) (memory from).ids (asked from).command) (sym (copied at))
-      ∙ sym c.check-conditions.ensures ∙ told)
+      ∙ sym c.check_conditions-verdict.ensures ∙ told)
 
-returns-3 : tie.Need-returns-3
-returns-3 c =
-    let told = c.before.before.before in
-    let looked = told.before.before in
-    let result = c.set-result.ensures ∙ ap (λ (n : ℕ). changed_at (with_result n) (state (from looked)) (place (at looked))) c.before.number.ensures.0 in
-    ap (λ (s : State). acted (called (Refuse told.verdict.given.0.0) s) (memory (from looked))) result
-    ∙ sym (decided looked told.verdict.given.1)
+returns-in-Refuse-verdict : tie.Need-returns-in-Refuse-verdict
+returns-in-Refuse-verdict c = let result = c.set_result-told.ensures ∙ ap (λ (n : ℕ). changed_at (with_result n) (state (from c.before.before.before)) (place (at c.before.before.before))) c.number.ensures.0 in
+    ap (λ (s : State). acted (called (Refuse c.in-Refuse-verdict.r) s) (memory (from c.before.before.before))) result
+    ∙ sym (decided c.before.before.before c.in-Refuse-verdict.is)
 
 clear-requires : tie.Need-clear-requires
-clear-requires c κs =
-    let found = at c.before.before.before.before.before.before.before in
+clear-requires c κs = let found = at c.before.before.before.before.before.before in
     let sizes = sized (sizing found) in (
       rw (copied found) ((ranges (sizing found)).payloads (place found) (counted found)).slot,
       sizes.arena_size,
@@ -139,70 +129,49 @@ clear-requires c κs =
       sizes.ids_size,
     )
 
-unloaded-requires : tie.Need-unloaded-requires
-unloaded-requires c κs =
-    let found = at c.before.before.before.before.before.before.before.before.before.before.before.before.before.before in
+unloaded-rest-requires : tie.Need-unloaded-rest-requires
+unloaded-rest-requires c κs = let found = at c.before.before.before.before.before.before.before.before.before.before.before.before.before in
     (counted found, (ranges (sizing found)).few)
 
 -- slot and store entries are zeroed
 module _ (c : tie.After-clear) where
-  abbrev looked : tie.After-check-conditions
-  looked = c.before.before.before.before.before.before.before.before
+  abbrev looked : tie.After-check_conditions-verdict
+  looked = c.before.before.before.before.before.before.before
 
   abbrev after : Lent
-  after = lent c.clear.last.0 c.clear.last.1.0 c.clear.last.1.1.0
+  after = lent c.clear.new.arena c.clear.new.undo c.clear.new.ids
 
   zeroed : after ≡ cleared (payload_at (state (from looked)) (place (at looked))).slot (memory (from looked))
   zeroed = c.clear.ensures ∙ ap (λ (p : Payload). cleared p.slot (memory (from looked))) (copied (at looked))
 
-returns-4 : tie.Need-returns-4
-returns-4 c =
-    let clearing = c.before.before.before.before.before.before.before in
-    let unloads = clearing.before.before.before.before.before in
-    let rest = unloaded_at (state (from (looked clearing))) (At (place (at (looked clearing)))) in
-    acted-same {r = called Pass c.unloaded.result} {q = called Pass rest} {a = after clearing}
-    (ap (called Pass) c.unloaded.ensures)
-    (zeroed clearing)
-    ∙ sym (decided (looked clearing) unloads.before.enum-told2.given.1 ∙ rw (eq-eqb _ _ unloads.if2.taken))
+returns-then-command-eq-UNLOAD : tie.Need-returns-then-command-eq-UNLOAD
+returns-then-command-eq-UNLOAD c = let rest = unloaded_at (state (from (looked c.before.before.before.before.before.before.before))) (At (place (at (looked c.before.before.before.before.before.before.before)))) in
+    acted-same {r = called Pass c.unloaded-rest.result} {q = called Pass rest} {a = after c.before.before.before.before.before.before.before}
+    (ap (called Pass) c.unloaded-rest.ensures)
+    (zeroed c.before.before.before.before.before.before.before)
+    ∙ sym (decided (looked c.before.before.before.before.before.before.before) c.in_default-verdict.is ∙ rw (eq-eqb _ _ c.if-command-eq-UNLOAD.true))
 
-returns-5 : tie.Need-returns-5
-returns-5 c =
-    let others = c.before.before in
-    let looked = others.before.before.before in
-    let slot = ap (λ (p : Payload). p.slot) (copied (at looked)) in
-    let job = c.job-for.ensures ∙ ap (λ (n : ℕ). job_for (asked (from looked)).command n (asked (from looked)).time) slot in
-    ap (λ (s : State). acted (called Pass s) (memory (from looked))) (begun-same job c.before.set-result2.ensures)
-    ∙ sym (decided looked others.before.enum-told2.given.1 ∙ rw (ne_eqb _ _ others.if2.left))
+returns : tie.Need-returns
+returns c = let slot = ap (λ (p : Payload). p.slot) (copied (at c.before.before.before.before)) in
+    let job = c.job_for-next.ensures ∙ ap (λ (n : ℕ). job_for (asked (from c.before.before.before.before)).command n (asked (from c.before.before.before.before)).time) slot in
+    ap (λ (s : State). acted (called Pass s) (memory (from c.before.before.before.before))) (begun-same job c.set_result-next.ensures)
+    ∙ sym (decided c.before.before.before.before c.in_default-verdict.is ∙ rw (ne_eqb _ _ c.if-command-eq-UNLOAD.false))
+
+find_target-target-requires : tie.Need-find_target-target-requires
+find_target-target-requires c κs = (sized c).ranges
+
+offset_bounds-state-i : tie.Need-offset_bounds-state-i
+offset_bounds-state-i c = omega (arith, inside c)
+
+bounds-state-i : tie.Need-bounds-state-i
+bounds-state-i c = omega (arith, inside c)
+
+set_result-told-requires : tie.Need-set_result-told-requires
+set_result-told-requires c κs = inside (at c.before.before)
+
+set_result-next-requires : tie.Need-set_result-next-requires
+set_result-next-requires c κs = inside (at c.before.before)
 
 pub action_spec : {M : Type 1} → statement M
 action_spec =
-    tie.close
-    (tie.spec
-    (λ c κs. search rules)
-    (λ c κs. search rules)
-    returns
-    (λ c κs. (sized c).ranges)
-    (λ c. search rules)
-    returns-2
-    (λ c. search rules)
-    (λ c. omega (arith, inside c))
-    (λ c. omega (arith, inside c))
-    check-conditions-requires
-    (λ c. search rules)
-    (λ c κs. search rules)
-    (λ c. search rules)
-    (λ c κs. inside (at c.before.before.before.before))
-    (λ c. search rules)
-    returns-3
-    (λ c. search rules)
-    (λ c. search rules)
-    clear-requires
-    unloaded-requires
-    (λ c. search rules)
-    (λ c. search rules)
-    (λ c. search rules)
-    returns-4
-    (λ c κs. inside (at c.before.before.before))
-    (λ c κs. search rules)
-    (λ c. search rules)
-    returns-5)
+    tie.close (tie.spec (λ c κs. search rules) (λ c κs. search rules) returns-then-not-sizes_ok find_target-target-requires (λ c. search rules) returns-in-Refuse (λ c. search rules) offset_bounds-state-i bounds-state-i check_conditions-verdict-requires (λ c. search rules) (λ c κs. search rules) (λ c. search rules) set_result-told-requires (λ c. search rules) returns-in-Refuse-verdict (λ c. search rules) (λ c. search rules) clear-requires unloaded-rest-requires (λ c. search rules) (λ c. search rules) (λ c. search rules) returns-then-command-eq-UNLOAD set_result-next-requires (λ c κs. search rules) (λ c. search rules) returns)

@@ -1,6 +1,5 @@
 -- `rules::check_conditions` meets its contract: the status, then the stack.
 use Rattle.std.proofs.Common.{◌≡◌, Bool, sym, ap, ◌∙◌, rules}
-use borrow.Author.Tests.{not-true, not-false}
 use Rattle.records.specs.Verdict.{must}
 use Rattle.records.specs.declared.refusal.Place.TheVariants.{Nowhere}
 use Rattle.records.specs.declared.refusal.Verdict.{Verdict}
@@ -9,34 +8,24 @@ use Rattle.actions.proofs.ActionLaws.{wrong-status, right-status}
 use Rattle.actions.proofs.rules.check_conditions.Statement.{statement}
 use Rattle.actions.proofs.rules.check_conditions.Tie as tie
 
-abbrev rules : tie.Start → Verdict
-rules c = condition_rules c.args.state c.args.build_id.now c.args.ids.now c.args.command c.args.payload
+abbrev ruled : tie.Start → Verdict
+ruled c = condition_rules c.args.state c.args.build_id.now c.args.ids.now c.args.command c.args.payload
 
-returns : tie.Need-returns
-returns c =
-    let asked = c.before.before.before in
-    c.refused.ensures ∙ sym (wrong-status _ _ _ _ _ asked.status-for.ensures c.before.if1.true)
+returns-then-payload-status_for : tie.Need-returns-then-payload-status_for
+returns-then-payload-status_for c = c.refused.ensures ∙ sym (wrong-status _ _ _ _ _ c.status_for.ensures c.if-payload-status_for.true)
 
 -- the status is right: the stack decides
-by-stack : (c : tie.After-base-ok) {b : Bool} → c.base_ok.result ≡ b → rules c.before.before.before.before.before.before ≡ must b 33 Nowhere
+by-stack : (c : tie.After-base_ok) {b : Bool} → c.base_ok.result ≡ b → ruled c.before.before.before.before.before.before ≡ must b 33 Nowhere
 by-stack c e =
-    right-status _ _ _ _ _ c.before.before.before.status-for.ensures c.before.if1.false c.base_ok.ensures
+    right-status _ _ _ _ _ c.status_for.ensures c.if-payload-status_for.false c.base_ok.ensures
     ∙ ap (λ (b : Bool). must b 33 Nowhere) e
 
-returns-2 : tie.Need-returns-2
-returns-2 c = c.refused2.ensures ∙ sym (by-stack c.before.before (not-true _ c.before.if2.true))
+returns-then-not-base_ok : tie.Need-returns-then-not-base_ok
+returns-then-not-base_ok c = c.refused-then-not-base_ok.ensures ∙ sym (by-stack c.before.before (c.if-not-base_ok.true))
 
-returns-3 : tie.Need-returns-3
-returns-3 c = sym (by-stack c.before (not-false _ c.if2.false))
+returns : tie.Need-returns
+returns c = sym (by-stack c.before (c.if-not-base_ok.false))
 
-pub check-conditions-spec : {M : Type 1} → statement M
-check-conditions-spec =
-    tie.close
-    (tie.spec
-    (λ c κs. search rules)
-    (λ c κs. search rules)
-    returns
-    (λ c κs. search rules)
-    (λ c κs. search rules)
-    returns-2
-    returns-3)
+pub check_conditions_spec : {M : Type 1} → statement M
+check_conditions_spec =
+    tie.close (tie.spec (λ c κs. search rules) (λ c κs. search rules) returns-then-payload-status_for (λ c κs. search rules) (λ c κs. search rules) returns-then-not-base_ok returns)

@@ -14,95 +14,72 @@ use Rattle.actions.proofs.TargetLaws.{name-hit}
 use Rattle.actions.proofs.rules.find_target.Statement.{statement}
 use Rattle.actions.proofs.rules.find_target.Tie as tie
 
-returns : tie.Need-returns
+returns-then-not-is_name : tie.Need-returns-then-not-is_name
 unfolding target_of target_rules
-returns c = simp (c.refuse.ensures, refuted c.before.before.is_name.ensures c.before.if1.taken)
+returns-then-not-is_name c = simp (c.refuse.ensures, refuted c.is_name.ensures c.if-not-is_name.true)
 
-returns-2 : tie.Need-returns-2
+returns-in_default : tie.Need-returns-in_default
 unfolding target_of target_rules
-returns-2 c =
-    let asked = c.before.before.before in
-    simp (
-      c.refuse2.ensures,
-      held asked.before.before.is_name.ensures asked.before.if1.left,
-      sym asked.with-name.ensures,
-      c.before.enum_told.given.1,
-    )
+returns-in_default c = simp (
+  c.refuse-in_default.ensures,
+  held c.is_name.ensures c.if-not-is_name.false,
+  sym c.with_name.ensures,
+  c.in_default.is,
+)
 
 -- the payload was found
-module _ (c : tie.After-known-told) where
-  abbrev named : tie.Else1
-  named = c.before.before.before.before
+module _ (c : tie.In-At) where
+  abbrev named : tie.Else-not-is_name
+  named = c.before.before
 
   abbrev start : tie.Start
   start = named.before.before.before
 
   is-named : is_name start.args.name.now ≡ true
-  is-named = held named.before.is_name.ensures named.if1.left
+  is-named = held named.before.is_name.ensures named.if-not-is_name.false
 
-  found : with_name start.args.t1 start.args.name.now ≡ At c.before.place.given.0.0
-  found = sym c.before.before.before.with-name.ensures ∙ c.before.place.given.1
+  found : with_name start.args.state start.args.name.now ≡ At c.in-At.place
+  found = sym c.with_name.ensures ∙ c.in-At.is
 
-  kept : Whole start.args.t1
-  kept = whole start.args.t1 _ start.good.0
+  kept : Whole start.args.state
+  kept = whole start.args.state _ start.well_formed.0
 
-  inside : c.before.place.given.0.0 < slot_count
-  inside = omega (arith, name-hit start.args.t1 _ _ found, (in-range kept start.pre).few)
+  inside : c.in-At.place < slot_count
+  inside = omega (arith, name-hit start.args.state _ _ found, (in-range kept start.requires).few)
 
-returns-3 : tie.Need-returns-3
+returns-then-command-lt-UNLOAD : tie.Need-returns-then-command-lt-UNLOAD
 unfolding target_of target_rules
-returns-3 c =
-    let at = c.before.before in
-    simp (c.refuse3.ensures, is-named at, found at, lt-leb _ _ c.before.if2.taken)
+returns-then-command-lt-UNLOAD c = simp (c.refuse-then-command-lt-UNLOAD.ensures, is-named c.before.before, found c.before.before, lt-leb _ _ c.if-command-lt-UNLOAD.true)
 
-returns-4 : tie.Need-returns-4
+returns-then-command-gt-REPLACE : tie.Need-returns-then-command-gt-REPLACE
 unfolding target_of target_rules
-returns-4 c =
-    let at = c.before.before.before in
-    simp (c.refuse4.ensures, is-named at, found at, lt-leb _ _ c.before.if3.taken, and-false)
+returns-then-command-gt-REPLACE c = simp (c.refuse-then-command-gt-REPLACE.ensures, is-named c.before.before.before, found c.before.before.before, lt-leb _ _ c.if-command-gt-REPLACE.true, and-false)
 
 -- the command is one of the four
-module _ (c : tie.After-is-busy) where
-  abbrev at : tie.After-known-told
+module _ (c : tie.After-is_busy) where
+  abbrev at : tie.In-At
   at = c.before.before.before.before
 
   commands : is_command (start at).args.command ≡ true
-  commands = rw (le-leb _ _ c.before.before.before.if2.left, le-leb _ _ c.before.before.if3.left)
+  commands = rw (le-leb _ _ c.if-command-lt-UNLOAD.false, le-leb _ _ c.if-command-gt-REPLACE.false)
 
-  busy : is_busy (start at).args.t1 (start at).args.command (payload_at (start at).args.t1 at.before.place.given.0.0) ≡ c.is-busy.result
-  busy = rw (← copied-payload (kept at) _ (inside at)) (sym c.is-busy.ensures)
+  busy : is_busy (start at).args.state (start at).args.command (payload_at (start at).args.state at.in-At.place) ≡ c.is_busy.result
+  busy = rw (← copied-payload (kept at) _ (inside at)) (sym c.is_busy.ensures)
 
-returns-5 : tie.Need-returns-5
+returns-then-is_busy : tie.Need-returns-then-is_busy
 unfolding target_of target_rules
-returns-5 c =
-    let asked = c.before.before in
-    simp (c.refuse5.ensures, is-named (at asked), found (at asked), commands asked, busy asked, c.before.if4.taken)
+returns-then-is_busy c = simp (c.refuse-then-is_busy.ensures, is-named (at c.before.before), found (at c.before.before), commands c.before.before, busy c.before.before, c.if-is_busy.true)
 
-returns-6 : tie.Need-returns-6
+returns : tie.Need-returns
 unfolding target_of target_rules
-returns-6 c =
-    let asked = c.before in
-    simp (is-named (at asked), found (at asked), commands asked, busy asked, c.if4.left)
+returns c = simp (is-named (at c.before), found (at c.before), commands c.before, busy c.before, c.if-is_busy.false)
 
-pub find-target-spec : {M : Type 1} → statement M
-find-target-spec =
-    tie.close
-    (tie.spec
-    (λ c κs. search rules)
-    (λ c κs. search rules)
-    returns
-    (λ c κs. search rules)
-    (λ c. search rules)
-    (λ c. search rules)
-    (λ c κs. search rules)
-    returns-2
-    (λ c κs. search rules)
-    returns-3
-    (λ c κs. search rules)
-    returns-4
-    (λ c. omega (arith, inside c.before.before))
-    (λ c. omega (arith, inside c.before.before))
-    (λ c κs. search rules)
-    (λ c κs. search rules)
-    returns-5
-    returns-6)
+offset_bounds-state-place : tie.Need-offset_bounds-state-place
+offset_bounds-state-place c = omega (arith, inside c.before.before)
+
+bounds-state-place : tie.Need-bounds-state-place
+bounds-state-place c = omega (arith, inside c.before.before)
+
+pub find_target_spec : {M : Type 1} → statement M
+find_target_spec =
+    tie.close (tie.spec (λ c κs. search rules) (λ c κs. search rules) returns-then-not-is_name (λ c κs. search rules) (λ c. search rules) (λ c. search rules) (λ c κs. search rules) returns-in_default (λ c κs. search rules) returns-then-command-lt-UNLOAD (λ c κs. search rules) returns-then-command-gt-REPLACE offset_bounds-state-place bounds-state-place (λ c κs. search rules) (λ c κs. search rules) returns-then-is_busy returns)

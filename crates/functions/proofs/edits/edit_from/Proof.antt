@@ -4,7 +4,7 @@ use mathlib.Core.Path.{◌≡◌}
 use mathlib.Core.Bool.{true, ◌&&◌}
 use native.Mathlib.Omega.{arith}
 use borrow.Author.Rules.{rules}
-use borrow.Author.Tests.{eq-eqb, ne_eqb, not-true, not-false}
+use borrow.Author.Tests.{eq-eqb, ne_eqb}
 use Rattle.words.proofs.Tests.{held, refuted}
 use Rattle.functions.specs.Edits.{form_ok, in_text, addresses_ok, fill_ok, jump_edit, edit_from}
 use Rattle.functions.specs.Patching.{Patching, patching}
@@ -13,120 +13,88 @@ use Rattle.functions.proofs.edits.edit_from.Statement.{statement}
 use Rattle.functions.proofs.edits.edit_from.Tie as tie
 
 -- what the record is read from and judged by
-abbrev from : tie.After-shared-slice-known2 → Patching
-from c = let a = c.before.before.args in patching a.host a.placed.now a.list.now
+abbrev from : tie.After-shared_slice_known-2-1 → Patching
+from c = let a = c.args in patching a.host a.placed.now a.list.now
 
 -- ---- what has passed
 
 -- the form
 well-formed :
-    (c : tie.Else1) → let a = c.before.before.before.before.args in
+    (c : tie.Else-not-form_ok) → let a = c.args in
     form_ok a.placed.now a.at a.f ≡ true
-well-formed c = held c.before.form-ok.ensures c.if1.false
+well-formed c = held c.form_ok.ensures c.if-not-form_ok.false
 
 -- the place in the text, as a test and as numbers
 in-text :
-    (c : tie.Else2) → let entered = c.before.before.before.before in
-    let a = entered.before.before.args in
-    in_text (from entered) a.old a.f ≡ true
-in-text c = held c.before.lies_in.ensures c.if2.false
+    (c : tie.Else-not-lies_in) → let a = c.args in
+    in_text (from c.before.before.before.before) a.old a.f ≡ true
+in-text c = held c.lies_in.ensures c.if-not-lies_in.false
 
 room :
-    (c : tie.Else2) → let a = c.before.before.before.before.before.before.args in
+    (c : tie.Else-not-lies_in) → let a = c.args in
     (a.host.text ≤ a.old) × (a.old - a.host.text + a.f.old_size ≤ a.host.text_length)
 room c = lies _ _ _ _ (in-text c)
 
 -- all that is asked of every record
 right :
-    (c : tie.Else3) → let entered = c.before.before.before.before.before.before in
-    let a = entered.before.before.args in
-    (form_ok a.placed.now a.at a.f && in_text (from entered) a.old a.f && addresses_ok (from entered) a.old a.f) ≡ true
+    (c : tie.Else-not-addresses_ok) → let a = c.args in
+    (form_ok a.placed.now a.at a.f && in_text (from c.before.before.before.before.before.before) a.old a.f && addresses_ok (from c.before.before.before.before.before.before) a.old a.f) ≡ true
 right c =
-    let texted = c.before.before in
-    rw (well-formed texted.before.before, in-text texted, held c.before.addresses-ok.ensures c.if3.false)
+    rw (well-formed c.before.before.before.before, in-text c.before.before, held c.addresses_ok.ensures c.if-not-addresses_ok.false)
 
 -- ---- the answers
 
+returns-then-not-form_ok : tie.Need-returns-then-not-form_ok
+unfolding edit_from
+returns-then-not-form_ok c = rw (refuted c.form_ok.ensures c.if-not-form_ok.true)
+
+returns-then-not-lies_in : tie.Need-returns-then-not-lies_in
+unfolding edit_from
+returns-then-not-lies_in c = rw (well-formed c.before.before, refuted c.lies_in.ensures c.if-not-lies_in.true)
+
+returns-then-not-addresses_ok : tie.Need-returns-then-not-addresses_ok
+unfolding edit_from
+returns-then-not-addresses_ok c = rw (well-formed c.before.before.before.before, in-text c.before.before, refuted c.addresses_ok.ensures c.if-not-addresses_ok.true)
+
+returns-then-not-fill_ok : tie.Need-returns-then-not-fill_ok
+unfolding edit_from fill_ok
+returns-then-not-fill_ok c = rw (right c.before.before.before.before, eq-eqb _ _ c.if-f-eq0.true, refuted c.fill_ok.ensures c.if-not-fill_ok.true)
+
+overflow_sub-result : tie.Need-overflow_sub-result
+overflow_sub-result c = omega (arith, room c.before.before.before.before.before.before.before)
+
+overflow_cast-result : tie.Need-overflow_cast-result
+overflow_cast-result c = omega (arith, room c.before.before.before.before.before.before.before)
+
+overflow_cast-result-then-f-eq0 : tie.Need-overflow_cast-result-then-f-eq0
+overflow_cast-result-then-f-eq0 c = omega (arith, fill_holds _ _ (held c.fill_ok.ensures c.if-not-fill_ok.false))
+
+returns-then-f-eq0 : tie.Need-returns-then-f-eq0
+unfolding edit_from fill_ok
+returns-then-f-eq0 c = rw (right c.before.before.before.before.before.before, eq-eqb _ _ c.if-f-eq0.true, held c.fill_ok.ensures c.if-not-fill_ok.false)
+
+returns-then-not-jump_ok : tie.Need-returns-then-not-jump_ok
+unfolding edit_from
+returns-then-not-jump_ok c = rw (
+  right c.before.before.before.before,
+  ne_eqb _ _ c.if-f-eq0.false,
+  ← c.jump_ok.ensures,
+  c.if-not-jump_ok.true,
+)
+
+jump_edit-requires : tie.Need-jump_edit-requires
+jump_edit-requires c κs = omega (arith, room c.before.before.before.before.before.before)
+
 returns : tie.Need-returns
-unfolding edit_from
-returns c = rw (refuted c.before.form-ok.ensures c.if1.true)
-
-returns-2 : tie.Need-returns-2
-unfolding edit_from
-returns-2 c = rw (well-formed c.before.before, refuted c.before.lies_in.ensures c.if2.true)
-
-returns-3 : tie.Need-returns-3
-unfolding edit_from
-returns-3 c =
-    let texted = c.before.before in
-    rw (well-formed texted.before.before, in-text texted, refuted c.before.addresses-ok.ensures c.if3.true)
-
-returns-4 : tie.Need-returns-4
-unfolding edit_from fill_ok
-returns-4 c =
-    let none = c.before.before in
-    rw (right none.before.before, eq-eqb _ _ none.if4.true, refuted c.before.fill-ok.ensures c.if5.true)
-
-sub-t13 : tie.Need-overflow-sub-t13
-sub-t13 c = omega (arith, room c.before.before.before.before.before.before.before)
-
-cast-t14 : tie.Need-overflow-cast-t14
-cast-t14 c = omega (arith, room c.before.before.before.before.before.before.before)
-
-cast-t15 : tie.Need-overflow-cast-t15
-cast-t15 c = let sized = c.before.before in omega (arith, fill_holds _ _ (held sized.before.fill-ok.ensures sized.if5.false))
-
-returns-5 : tie.Need-returns-5
-unfolding edit_from fill_ok
-returns-5 c =
-    let sized = c.before.before in
-    let none = sized.before.before in
-    rw (right none.before.before, eq-eqb _ _ none.if4.true, held sized.before.fill-ok.ensures sized.if5.false)
-
-returns-6 : tie.Need-returns-6
-unfolding edit_from
-returns-6 c =
-    let some = c.before.before in
-    rw (
-      right some.before.before,
-      ne_eqb _ _ some.if4.false,
-      ← c.before.jump_ok.ensures,
-      not-true c.before.jump_ok.result c.if6.true,
-    )
-
-jump-edit-requires : tie.Need-jump-edit-requires
-jump-edit-requires c κs = omega (arith, room c.before.before.before.before.before.before)
-
-returns-7 : tie.Need-returns-7
 unfolding edit_from jump_edit
-returns-7 c =
-    let coded = c.before in
-    let some = coded.before.before in
-    rw (
-      right some.before.before,
-      ne_eqb _ _ some.if4.false,
-      ← coded.before.jump_ok.ensures,
-      not-false coded.before.jump_ok.result coded.if6.false,
-      c.jump-edit.ensures,
-    )
+returns c = rw (
+  right c.before.before.before.before.before,
+  ne_eqb _ _ c.if-f-eq0.false,
+  ← c.jump_ok.ensures,
+  c.if-not-jump_ok.false,
+  c.jump_edit.ensures,
+)
 
-pub edit-from-spec : {M : Type 1} → statement M
-edit-from-spec =
-    tie.close
-    (tie.spec
-    (λ c κs. search rules)
-    returns
-    (λ c κs. search rules)
-    returns-2
-    (λ c κs. search rules)
-    returns-3
-    (λ c κs. search rules)
-    returns-4
-    sub-t13
-    cast-t14
-    cast-t15
-    returns-5
-    (λ c κs. search rules)
-    returns-6
-    jump-edit-requires
-    returns-7)
+pub edit_from_spec : {M : Type 1} → statement M
+edit_from_spec =
+    tie.close (tie.spec (λ c κs. search rules) returns-then-not-form_ok (λ c κs. search rules) returns-then-not-lies_in (λ c κs. search rules) returns-then-not-addresses_ok (λ c κs. search rules) returns-then-not-fill_ok overflow_sub-result overflow_cast-result overflow_cast-result-then-f-eq0 returns-then-f-eq0 (λ c κs. search rules) returns-then-not-jump_ok jump_edit-requires returns)

@@ -11,62 +11,43 @@ use Rattle.functions.specs.Records.{function_found, named_address}
 use Rattle.functions.proofs.function.named_address.Statement.{statement}
 use Rattle.functions.proofs.function.named_address.Tie as tie
 
-returns : tie.Need-returns
-returns c = rw (name-missing _ _ c.before.before.name-end.ensures c.enum_told.given.1)
+returns-in_default : tie.Need-returns-in_default
+returns-in_default c = rw (name-missing _ _ c.name_end.ensures c.in_default.is)
 
 -- the name, where its end was found
 cut :
-    (c : tie.After-known-told) → let a = c.before.before.before.before.before.before.args in
-    Cut a.placed.now a.start c.before.end.given.0.0
-cut c = name-found _ _ c.before.before.before.name-end.ensures c.before.end.given.1
+    (c : tie.In-At) → let a = c.args in
+    Cut a.placed.now a.start c.in-At.end
+cut c = name-found _ _ c.name_end.ensures c.in-At.is
 
-sub-if1 : tie.Need-overflow-sub-if1
-sub-if1 c = omega (arith, (cut c).low)
+overflow_sub-end : tie.Need-overflow_sub-end
+overflow_sub-end c = omega (arith, (cut c).low)
 
-returns-2 : tie.Need-returns-2
-returns-2 c = let name = cut c.before in rw (name.name, name.size, lt-leb _ _ c.if1.true)
+returns-then-end-first-lt1 : tie.Need-returns-then-end-first-lt1
+returns-then-end-first-lt1 c = let name = cut c.before in rw (name.name, name.size, lt-leb _ _ c.if-end-first-lt1.true)
 
-returns-3 : tie.Need-returns-3
-returns-3 c =
-    let name = cut c.before.before in
-    rw (name.name, name.size, le-leb _ _ c.before.if1.false, lt-leb _ _ c.if2.true)
+returns-then-end-first-gt-NAME_MAX : tie.Need-returns-then-end-first-gt-NAME_MAX
+returns-then-end-first-gt-NAME_MAX c = let name = cut c.before.before in
+    rw (name.name, name.size, le-leb _ _ c.if-end-first-lt1.false, lt-leb _ _ c.if-end-first-gt-NAME_MAX.true)
 
-part-find-end : tie.Need-slice-bounds-find-end
-part-find-end c = omega (arith, (cut c.before.before).high)
+slice_bounds-find-end : tie.Need-slice_bounds-find-end
+slice_bounds-find-end c = omega (arith, (cut c.before.before).high)
 
 -- a name of the right length is looked up
 looked-up :
-    (c : tie.After-find) → let a = c.before.before.before.before.before.before.before.before.before.before.args in
-    named_address a.list.now (name_in a.placed.now a.start) ≡ function_found c.find.result.found
+    (c : tie.After-find-search) → let a = c.args in
+    named_address a.list.now (name_in a.placed.now a.start) ≡ function_found c.find-search.result.found
 unfolding part
 looked-up c =
-    let short = c.before.before in
-    let name = cut short.before.before in
-    rw (name.name, name.size, le-leb _ _ short.before.if1.false, le-leb _ _ short.if2.false, search-found _ _ c.find.ensures)
+    let name = cut c.before.before.before.before in
+    rw (name.name, name.size, le-leb _ _ c.if-end-first-lt1.false, le-leb _ _ c.if-end-first-gt-NAME_MAX.false, search-found _ _ c.find-search.ensures)
 
-returns-4 : tie.Need-returns-4
-returns-4 c = rw (looked-up c.before.before.before, c.before.found.given.1)
+returns-in-Address : tie.Need-returns-in-Address
+returns-in-Address c = rw (looked-up c.before, c.in-Address.is)
 
-returns-5 : tie.Need-returns-5
-returns-5 c = rw (looked-up c.before.before, c.enum-told2.given.1)
+returns-in-Nothing : tie.Need-returns-in-Nothing
+returns-in-Nothing c = rw (looked-up c.before, c.in-Nothing.is)
 
-pub named-address-spec : {M : Type 1} → statement M
-named-address-spec =
-    tie.close
-    (tie.spec
-    (λ c κs. search rules)
-    (λ c. search rules)
-    (λ c. search rules)
-    returns
-    sub-if1
-    returns-2
-    (λ c. search rules)
-    returns-3
-    (λ c. search rules)
-    (λ c. search rules)
-    part-find-end
-    (λ c κs. search rules)
-    (λ c. search rules)
-    (λ c. search rules)
-    returns-4
-    returns-5)
+pub named_address_spec : {M : Type 1} → statement M
+named_address_spec =
+    tie.close (tie.spec (λ c κs. search rules) (λ c. search rules) (λ c. search rules) returns-in_default overflow_sub-end returns-then-end-first-lt1 (λ c. search rules) returns-then-end-first-gt-NAME_MAX (λ c. search rules) (λ c. search rules) slice_bounds-find-end (λ c κs. search rules) (λ c. search rules) (λ c. search rules) returns-in-Address returns-in-Nothing)

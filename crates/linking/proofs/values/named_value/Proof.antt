@@ -10,54 +10,40 @@ use Rattle.linking.specs.Symbols.{symbol_found, named_value}
 use Rattle.linking.proofs.values.named_value.Statement.{statement}
 use Rattle.linking.proofs.values.named_value.Tie as tie
 
-returns : tie.Need-returns
-returns c = rw (name-missing _ _ c.before.before.name-end.ensures c.enum_told.given.1)
+returns-in_default : tie.Need-returns-in_default
+returns-in_default c = rw (name-missing _ _ c.name_end.ensures c.in_default.is)
 
 -- the name, where its end was found
 cut :
-    (c : tie.After-known-told) → let a = c.before.before.before.before.before.before.args in
-    Cut a.strings.now a.name c.before.end.given.0.0
-cut c = name-found _ _ c.before.before.before.name-end.ensures c.before.end.given.1
+    (c : tie.In-At) → let a = c.args in
+    Cut a.strings.now a.name c.in-At.end
+cut c = name-found _ _ c.name_end.ensures c.in-At.is
 
-sub-find : tie.Need-overflow-sub-find
-sub-find c = omega (arith, (cut c).low)
+slice_bounds-find-count : tie.Need-slice_bounds-find-count
+slice_bounds-find-count c = omega (arith, (cut c).low)
 
-part-find-start : tie.Need-slice-bounds-find-start
-part-find-start c = omega (arith, (cut c).low)
+slice_bounds-find-start : tie.Need-slice_bounds-find-start
+slice_bounds-find-start c = omega (arith, (cut c).low)
 
-part-find-end : tie.Need-slice-bounds-find-end
-part-find-end c = omega (arith, (cut c).high)
+slice_bounds-find-end : tie.Need-slice_bounds-find-end
+slice_bounds-find-end c = omega (arith, (cut c).high)
 
 -- the name is looked up
 looked-up :
-    (c : tie.After-find) → let a = c.before.before.before.before.before.before.before.before.args in
-    named_value a.weak a.list.now (name_in a.strings.now a.name) ≡ symbol_found a.weak c.find.result.found
+    (c : tie.After-find-search) → let a = c.args in
+    named_value a.weak a.list.now (name_in a.strings.now a.name) ≡ symbol_found a.weak c.find-search.result.found
 unfolding part
-looked-up c = rw ((cut c.before.before).name, search-found _ _ c.find.ensures)
+looked-up c = rw ((cut c.before.before).name, search-found _ _ c.find-search.ensures)
 
-returns-2 : tie.Need-returns-2
-returns-2 c = rw (looked-up c.before.before.before, c.before.enum-told2.given.1, c.if1.true)
+returns-then-weak : tie.Need-returns-then-weak
+returns-then-weak c = rw (looked-up c.before.before, c.in-Nothing.is, c.if-weak.true)
 
-returns-3 : tie.Need-returns-3
-returns-3 c = rw (looked-up c.before.before.before, c.before.found.given.1)
+returns-in-Address : tie.Need-returns-in-Address
+returns-in-Address c = rw (looked-up c.before, c.in-Address.is)
 
-returns-4 : tie.Need-returns-4
-returns-4 c = rw (looked-up c.before.before.before, c.before.enum-told2.given.1, c.if1.false)
+returns-else-weak : tie.Need-returns-else-weak
+returns-else-weak c = rw (looked-up c.before.before, c.in-Nothing.is, c.if-weak.false)
 
-pub named-value-spec : {M : Type 1} → statement M
-named-value-spec =
-    tie.close
-    (tie.spec
-    (λ c κs. search rules)
-    (λ c. search rules)
-    (λ c. search rules)
-    returns
-    sub-find
-    part-find-start
-    part-find-end
-    (λ c κs. search rules)
-    (λ c. search rules)
-    (λ c. search rules)
-    returns-2
-    returns-3
-    returns-4)
+pub named_value_spec : {M : Type 1} → statement M
+named_value_spec =
+    tie.close (tie.spec (λ c κs. search rules) (λ c. search rules) (λ c. search rules) returns-in_default slice_bounds-find-count slice_bounds-find-start slice_bounds-find-end (λ c κs. search rules) (λ c. search rules) (λ c. search rules) returns-then-weak returns-in-Address returns-else-weak)

@@ -25,54 +25,36 @@ module _ (s : tie.Start) where
       relocation_header_rules s.args.table s.args.count (index_of s.args.table s.args.count Symbols)
       then note_rules s.args.file.now s.args.table s.args.count
 
+returns-in-Refuse : tie.Need-returns-in-Refuse
+unfolding table_rules
+returns-in-Refuse c = rw (← c.check_sections-first.ensures, c.in-Refuse.is)
+
+sections-passed : (c : tie.In_default) → all-rules c.before.before.before ≡ (counts c.before.before.before then from-relocations c.before.before.before)
+unfolding table_rules
+sections-passed c = rw (← c.check_sections-first.ensures, c.in_default.is)
+
+returns-in-Refuse-second : tie.Need-returns-in-Refuse-second
+returns-in-Refuse-second c = rw (sections-passed c.before.before, ← c.check_counts-second.ensures, c.in-Refuse-second.is)
+
+counts-passed : (c : tie.In_default-second) → all-rules c.before.before.before.before.before ≡ from-relocations c.before.before.before.before.before
+counts-passed c = rw (sections-passed c.before.before, ← c.check_counts-second.ensures, c.in_default-second.is)
+
+returns-in-Refuse-third : tie.Need-returns-in-Refuse-third
+returns-in-Refuse-third c = rw (
+  counts-passed c.before.before.before,
+  ← c.index_of-symbols.ensures.0,
+  ← c.check_relocation_headers-third.ensures,
+  c.in-Refuse-third.is,
+)
+
 returns : tie.Need-returns
-unfolding table_rules
-returns c = rw (← c.before.before.check-sections.ensures, c.enum_told.given.1)
+returns c = rw (
+  counts-passed c.before.before.before.before,
+  ← c.index_of-symbols.ensures.0,
+  ← c.check_relocation_headers-third.ensures,
+  c.in_default-third.is,
+) c.check_notes.ensures
 
-sections-passed : (c : tie.After-enum-told2) → let s = c.before.before.before.before in all-rules s ≡ (counts s then from-relocations s)
-unfolding table_rules
-sections-passed c = rw (← c.before.before.check-sections.ensures, c.enum-told2.given.1)
-
-returns-2 : tie.Need-returns-2
-returns-2 c = rw (sections-passed c.before.before.before, ← c.before.before.check-counts.ensures, c.enum-told3.given.1)
-
-counts-passed : (c : tie.After-enum-told4) → let s = c.before.before.before.before.before.before.before in all-rules s ≡ from-relocations s
-counts-passed c = rw (sections-passed c.before.before.before, ← c.before.before.check-counts.ensures, c.enum-told4.given.1)
-
-returns-3 : tie.Need-returns-3
-returns-3 c =
-    rw (
-      counts-passed c.before.before.before.before,
-      ← c.before.before.before.index_of.ensures.0,
-      ← c.before.before.check-relocation-headers.ensures,
-      c.enum-told5.given.1,
-    )
-
-returns-4 : tie.Need-returns-4
-returns-4 c =
-    rw (
-      counts-passed c.before.before.before.before.before,
-      ← c.before.before.before.before.index_of.ensures.0,
-      ← c.before.before.before.check-relocation-headers.ensures,
-      c.before.enum-told6.given.1,
-    ) c.check-notes.ensures
-
-pub check-table-spec : {M : Type 1} → statement M
-check-table-spec =
-    tie.close
-    (tie.spec
-    (λ c κs. search rules)
-    (λ c. search rules)
-    returns
-    (λ c. search rules)
-    (λ c κs. search rules)
-    (λ c. search rules)
-    returns-2
-    (λ c. search rules)
-    (λ c κs. search rules)
-    (λ c κs. search rules)
-    (λ c. search rules)
-    returns-3
-    (λ c. search rules)
-    (λ c κs. search rules)
-    returns-4)
+pub check_table_spec : {M : Type 1} → statement M
+check_table_spec =
+    tie.close (tie.spec (λ c κs. search rules) (λ c. search rules) returns-in-Refuse (λ c. search rules) (λ c κs. search rules) (λ c. search rules) returns-in-Refuse-second (λ c. search rules) (λ c κs. search rules) (λ c κs. search rules) (λ c. search rules) returns-in-Refuse-third (λ c. search rules) (λ c κs. search rules) returns)

@@ -19,107 +19,84 @@ use Rattle.payload.proofs.read.read.Tie as tie
 
 -- ---- the header
 
-returns : tie.Need-returns
+returns-in-Refuse : tie.Need-returns-in-Refuse
 unfolding reading_of read_rules
-returns c = rw (← c.before.before.before.before.check-header.ensures, c.before.before.head.given.1) c.refuse.ensures
+returns-in-Refuse c = rw (← c.check_header-head.ensures, c.in-Refuse.is) c.refuse.ensures
 
-module _ (c : tie.After-enum-told) where
+module _ (c : tie.In_default) where
   abbrev machine : Machine
-  machine = machine_of c.before.before.before.before.args.processor
+  machine = machine_of c.args.processor
 
   abbrev file : List ℕ
-  file = c.before.before.before.before.args.file.now
+  file = c.args.file.now
 
   header-passed : header_rules machine file ≡ Pass
-  header-passed = sym c.before.before.check-header.ensures ∙ c.enum_told.given.1
+  header-passed = sym c.check_header-head.ensures ∙ c.in_default.is
 
   has-header : Headed file
   has-header = headed machine file header-passed
 
-check-name-table-requires : tie.Need-check-name-table-requires
-check-name-table-requires c κs = has-header c
+check_name_table-names-requires : tie.Need-check_name_table-names-requires
+check_name_table-names-requires c κs = has-header c
 
 -- ---- the name table
 
-returns-2 : tie.Need-returns-2
+returns-in-Refuse-names : tie.Need-returns-in-Refuse-names
 unfolding reading_of read_rules
-returns-2 c =
-    rw (
-      header-passed c.before.before.before.before.before,
-      ← c.before.before.before.before.check-name-table.ensures,
-      c.before.before.names.given.1,
-    ) c.refuse2.ensures
+returns-in-Refuse-names c = rw (
+  header-passed c.before.before.before,
+  ← c.check_name_table-names.ensures,
+  c.in-Refuse-names.is,
+) c.refuse-in-Refuse-names.ensures
 
-names-passed : (c : tie.After-enum-told2) → name_table_rules (file c.before.before.before) ≡ Pass
-names-passed c = sym c.before.before.check-name-table.ensures ∙ c.enum-told2.given.1
+names-passed : (c : tie.In_default-names) → name_table_rules (file c.before.before) ≡ Pass
+names-passed c = sym c.check_name_table-names.ensures ∙ c.in_default-names.is
 
-read-file-header-requires : tie.Need-read-file-header-requires
-read-file-header-requires c κs = (has-header c.before.before.before).whole
+read_file_header-h-requires : tie.Need-read_file_header-h-requires
+read_file_header-h-requires c κs = (has-header c.before.before).whole
 
-read-sections-requires : tie.Need-read-sections-requires
-read-sections-requires c κs = (has-header c.before.before.before.before, names-passed c.before)
+read_sections-table-requires : tie.Need-read_sections-table-requires
+read_sections-table-requires c κs = (has-header c.before.before.before, names-passed c.before)
 
 -- ---- the table that was read
 
-module _ (c : tie.After-read-sections) where
-  abbrev with-header : tie.After-enum-told
-  with-header = c.before.before.before.before.before
+module _ (c : tie.After-read_sections-table) where
+  abbrev with-header : tie.In_default
+  with-header = c.before.before.before.before
 
   abbrev count : ℕ
-  count = c.before.read-file-header.result.e_shnum
+  count = c.read_file_header-h.result.e_shnum
 
   right-count : count ≡ section_count (file with-header)
-  right-count = count-read (file with-header) c.before.read-file-header.ensures.0
+  right-count = count-read (file with-header) c.read_file_header-h.ensures.0
 
   few : count ≤ sections_max
   few = omega (arith, right-count, (has-header with-header).few)
 
   by-table :
       reading_of (machine with-header) (file with-header)
-      ≡ decide refused_reading (accepted_reading (file with-header) c.read-sections.result count)
-      (table_rules (file with-header) c.read-sections.result count)
+      ≡ decide refused_reading (accepted_reading (file with-header) c.read_sections-table.result count)
+      (table_rules (file with-header) c.read_sections-table.result count)
   unfolding reading_of read_rules
-  by-table = rw (header-passed with-header, names-passed c.before.before, ← c.read-sections.ensures, ← right-count)
+  by-table = rw (header-passed with-header, names-passed c.before.before, ← c.read_sections-table.ensures, ← right-count)
 
-check-table-requires : tie.Need-check-table-requires
-check-table-requires c κs = few c
+check_table-rest-requires : tie.Need-check_table-rest-requires
+check_table-rest-requires c κs = few c
 
-returns-3 : tie.Need-returns-3
-returns-3 c =
-    rw (
-      by-table c.before.before.before.before.before,
-      ← c.before.before.before.before.check-table.ensures,
-      c.before.before.rest.given.1,
-    ) c.refuse3.ensures
+returns-in-Refuse-rest : tie.Need-returns-in-Refuse-rest
+returns-in-Refuse-rest c = rw (
+  by-table c.before.before.before,
+  ← c.check_table-rest.ensures,
+  c.in-Refuse-rest.is,
+) c.refuse-in-Refuse-rest.ensures
 
 accept-requires : tie.Need-accept-requires
-accept-requires c κs = (few c.before.before.before, sym c.before.before.check-table.ensures ∙ c.enum-told3.given.1)
+accept-requires c κs = (few c.before.before, sym c.check_table-rest.ensures ∙ c.in_default-rest.is)
 
-returns-4 : tie.Need-returns-4
-returns-4 c =
-    rw (by-table c.before.before.before.before, ← c.before.before.before.check-table.ensures, c.before.enum-told3.given.1)
+returns : tie.Need-returns
+returns c = rw (by-table c.before.before.before, ← c.check_table-rest.ensures, c.in_default-rest.is)
     c.accept.ensures
 
 pub read_spec : {M : Type 1} → statement M
 read_spec =
-    tie.close
-    (tie.spec
-    (λ c κs. search rules)
-    (λ c. search rules)
-    (λ c κs. search rules)
-    returns
-    (λ c. search rules)
-    check-name-table-requires
-    (λ c. search rules)
-    (λ c κs. search rules)
-    returns-2
-    (λ c. search rules)
-    read-file-header-requires
-    read-sections-requires
-    check-table-requires
-    (λ c. search rules)
-    (λ c κs. search rules)
-    returns-3
-    (λ c. search rules)
-    accept-requires
-    returns-4)
+    tie.close (tie.spec (λ c κs. search rules) (λ c. search rules) (λ c κs. search rules) returns-in-Refuse (λ c. search rules) check_name_table-names-requires (λ c. search rules) (λ c κs. search rules) returns-in-Refuse-names (λ c. search rules) read_file_header-h-requires read_sections-table-requires check_table-rest-requires (λ c. search rules) (λ c κs. search rules) returns-in-Refuse-rest (λ c. search rules) accept-requires returns)

@@ -15,70 +15,54 @@ use Rattle.queries.proofs.GetLaws.{name-hit, get-out, get-unnamed, get-missing, 
 use Rattle.queries.proofs.get.get.Statement.{statement}
 use Rattle.queries.proofs.get.get.Tie as tie
 
-returns : tie.Need-returns
-returns c = c.refuse.ensures ∙ get-out _ _ (refuted c.before.before.in-range.ensures c.before.if1.taken)
+returns-then-not-in_range : tie.Need-returns-then-not-in_range
+returns-then-not-in_range c = c.refuse.ensures ∙ get-out _ _ (refuted c.in_range.ensures c.if-not-in_range.true)
 
-module _ (c : tie.Else1) where
+module _ (c : tie.Else-not-in_range) where
   abbrev start : tie.Start
   start = c.before.before.before
 
-  right : in_range start.args.t1 ≡ true
-  right = held c.before.in-range.ensures c.if1.left
+  right : in_range start.args.state ≡ true
+  right = held c.in_range.ensures c.if-not-in_range.false
 
-returns-2 : tie.Need-returns-2
-returns-2 c =
-    c.refuse2.ensures
-    ∙ get-unnamed _ _ (right c.before.before.before) (refuted c.before.before.is_name.ensures c.before.if2.taken)
+returns-then-not-is_name : tie.Need-returns-then-not-is_name
+returns-then-not-is_name c = c.refuse-then-not-is_name.ensures
+    ∙ get-unnamed _ _ (right c.before.before.before) (refuted c.is_name.ensures c.if-not-is_name.true)
 
 -- the name is one
-module _ (c : tie.Else2) where
-  abbrev ranged : tie.Else1
+module _ (c : tie.Else-not-is_name) where
+  abbrev ranged : tie.Else-not-in_range
   ranged = c.before.before
 
   named : is_name (start ranged).args.name.now ≡ true
-  named = held c.before.is_name.ensures c.if2.left
+  named = held c.is_name.ensures c.if-not-is_name.false
 
-returns-3 : tie.Need-returns-3
-returns-3 c =
-    let finding = c.before.before.before in
-    let two = finding.before in
-    c.refuse3.ensures
-    ∙ get-missing _ _ (right (ranged two)) (named two) (sym finding.with-name.ensures ∙ c.before.enum_told.given.1)
+returns-in_default : tie.Need-returns-in_default
+returns-in_default c = c.refuse-in_default.ensures
+    ∙ get-missing _ _ (right (ranged c.before.before.before)) (named c.before.before.before) (sym c.with_name.ensures ∙ c.in_default.is)
 
 -- what was found is in the list
-inside : (c : tie.After-known-told) → c.before.i.given.0.0 < slot_count
+inside : (c : tie.In-At) → c.in-At.i < slot_count
 inside c =
-    let found = c.before.before.before in
-    let here = ranged found.before in
-    let hit = name-hit (start here).args.t1 _ _ (sym found.with-name.ensures ∙ c.before.i.given.1) in
-    omega (arith, hit, (in-range (whole (start here).args.t1 _ (start here).good.0) (right here)).few)
+    let here = ranged c.before.before in
+    let hit = name-hit (start here).args.state _ _ (sym c.with_name.ensures ∙ c.in-At.is) in
+    omega (arith, hit, (in-range (whole (start here).args.state _ (start here).well_formed.0) (right here)).few)
 
-returns-4 : tie.Need-returns-4
-returns-4 c =
-    let known = c.before.before in
-    let finding = known.before.before.before in
-    let two = finding.before in
-    let begun = start (ranged two) in
+returns : tie.Need-returns
+returns c = let begun = start (ranged c.before.before.before.before) in
     c.answer.ensures
-    ∙ ap got (copied-payload (whole begun.args.t1 _ begun.good.0) _ (inside known))
-    ∙ get-found _ _ (right (ranged two)) (named two) _ (sym finding.with-name.ensures ∙ known.before.i.given.1)
+    ∙ ap got (copied-payload (whole begun.args.state _ begun.well_formed.0) _ (inside c.before.before))
+    ∙ get-found _ _ (right (ranged c.before.before.before.before)) (named c.before.before.before.before) _ (sym c.with_name.ensures ∙ c.in-At.is)
+
+with_name-requires : tie.Need-with_name-requires
+with_name-requires c κs = right c.before.before
+
+offset_bounds-state-i : tie.Need-offset_bounds-state-i
+offset_bounds-state-i c = omega (arith, inside c)
+
+bounds-state-i : tie.Need-bounds-state-i
+bounds-state-i c = omega (arith, inside c)
 
 pub get_spec : {M : Type 1} → statement M
 get_spec =
-    tie.close
-    (tie.spec
-    (λ c κs. search rules)
-    (λ c κs. search rules)
-    returns
-    (λ c κs. search rules)
-    (λ c κs. search rules)
-    returns-2
-    (λ c κs. right c.before.before)
-    (λ c. search rules)
-    (λ c. search rules)
-    (λ c κs. search rules)
-    returns-3
-    (λ c. omega (arith, inside c))
-    (λ c. omega (arith, inside c))
-    (λ c κs. search rules)
-    returns-4)
+    tie.close (tie.spec (λ c κs. search rules) (λ c κs. search rules) returns-then-not-in_range (λ c κs. search rules) (λ c κs. search rules) returns-then-not-is_name with_name-requires (λ c. search rules) (λ c. search rules) (λ c κs. search rules) returns-in_default offset_bounds-state-i bounds-state-i (λ c κs. search rules) returns)

@@ -14,133 +14,93 @@ use Rattle.relocation.specs.Relocating.{field_address, with_symbol, field_ok, fi
 use Rattle.relocation.proofs.fields.field_of.Statement.{statement}
 use Rattle.relocation.proofs.fields.field_of.Tie as tie
 
-returns : tie.Need-returns
+returns-in-Nothing : tie.Need-returns-in-Nothing
 unfolding field_of
-returns c = λ l g. (rw (← c.before.before.relocation-type.ensures, c.enum_told.given.1), g.sought.kept)
+returns-in-Nothing c = λ l g. (rw (← c.relocation_type-asked.ensures, c.in-Nothing.is), g.sought.kept)
 
-returns-2 : tie.Need-returns-2
+returns-in-Unknown : tie.Need-returns-in-Unknown
 unfolding field_of
-returns-2 c = λ l g. (rw (← c.before.before.relocation-type.ensures, c.enum-told2.given.1), g.sought.kept)
+returns-in-Unknown c = λ l g. (rw (← c.relocation_type-asked.ensures, c.in-Unknown.is), g.sought.kept)
 
 -- ---- a type that stores a field
 
-abbrev start : tie.After-known-told → tie.Start
-start c = c.before.before.before.before.before.before.before
+abbrev start : tie.In-Stores → tie.Start
+start c = c.before.before.before.before.before
 
-abbrev field : tie.After-known-told → FieldType
-field c = c.before.asked.given.0.0
+abbrev field : tie.In-Stores → FieldType
+field c = c.in-Stores.f
 
 stores :
-    (c : tie.After-known-told) →
+    (c : tie.In-Stores) →
     let a = (start c).args in
     (host_machine a.host).relocation a.r.r_type ≡ Stores (field c)
-stores c = sym c.before.before.before.relocation-type.ensures ∙ c.before.asked.given.1
+stores c = sym c.relocation_type-asked.ensures ∙ c.in-Stores.is
 
 -- whether the field lies within its section, tested
 inside :
-    (c : tie.After-lies-within) →
-    let known = c.before.before in
-    let a = (start known).args in
-    c.lies_within.result ≡ leb (a.r.r_offset + (rule_of (field known)).width) a.area.size
-inside c = rw c.before.width.ensures at c.lies_within.ensures
+    (c : tie.After-lies_within) →
+    let a = (start c.before.before).args in
+    c.lies_within.result ≡ leb (a.r.r_offset + (rule_of (field c.before.before)).width) a.area.size
+inside c = rw c.width.ensures at c.lies_within.ensures
 
-returns-3 : tie.Need-returns-3
+returns-then-not-lies_within : tie.Need-returns-then-not-lies_within
 unfolding field_of field_ok
-returns-3 c = λ l g. (rw (stores c.before.before.before, refuted (inside c.before) c.if1.true), g.sought.kept)
+returns-then-not-lies_within c = λ l g. (rw (stores c.before.before.before, refuted (inside c.before) c.if-not-lies_within.true), g.sought.kept)
 
 -- the field's address
 placed :
-    (c : tie.After-add2) (l : Linking) →
+    (c : tie.After-add-place) (l : Linking) →
     let a = (start c.before.before.before.before.before).args in
-    l.slot ≡ a.host.slot → c.add2.result ≡ field_address l a.area a.r
-placed c l same = rw (same, c.add2.ensures, c.before.add.ensures)
+    l.slot ≡ a.host.slot → c.add-place.result ≡ field_address l a.area a.r
+placed c l same = rw (same, c.add-place.ensures, c.add.ensures)
 
 -- whether the field may stand there, tested
 aligned :
-    (c : tie.After-is-aligned) (l : Linking) →
-    let known = c.before.before.before.before.before.before in
-    let a = (start known).args in
-    l.slot ≡ a.host.slot → c.is-aligned.result ≡ (rule_of (field known)).aligned (field_address l a.area a.r)
-aligned c l same = rw (placed c.before l same) at c.is-aligned.ensures
+    (c : tie.After-is_aligned) (l : Linking) →
+    let a = (start c.before.before.before.before.before.before).args in
+    l.slot ≡ a.host.slot → c.is_aligned.result ≡ (rule_of (field c.before.before.before.before.before.before)).aligned (field_address l a.area a.r)
+aligned c l same = rw (placed c.before l same) at c.is_aligned.ensures
 
-returns-4 : tie.Need-returns-4
+returns-then-not-is_aligned : tie.Need-returns-then-not-is_aligned
 unfolding field_of field_ok
-returns-4 c =
-    let fits = c.before.before.before.before in
-    λ l g. (
-      rw (
-        stores fits.before.before.before,
-        held (inside fits.before) fits.if1.false,
-        refuted (aligned c.before l g.address) c.if2.true,
-      ),
-      g.sought.kept,
-    )
+returns-then-not-is_aligned c = λ l g. (
+  rw (
+    stores c.before.before.before.before.before.before.before,
+    held (inside c.before.before.before.before.before) c.if-not-lies_within.false,
+    refuted (aligned c.before l g.address) c.if-not-is_aligned.true,
+  ),
+  g.sought.kept,
+)
 
 -- ---- past both tests the symbol's value decides
 
 by-symbol :
-    (c : tie.After-value-of) (l : Linking) →
-    let known = c.before.before.before.before.before.before.before.before.before in
-    let a = (start known).args in
+    (c : tie.After-value_of) (l : Linking) →
+    let a = (start c.before.before.before.before.before.before.before.before.before).args in
     Given l a.host a.cells.now a.strings.now a.list.now →
-    field_of (host_machine a.host) l a.area a.r ≡ with_symbol l a.area a.r (field known) c.value_of_lem.result
+    field_of (host_machine a.host) l a.area a.r ≡ with_symbol l a.area a.r (field c.before.before.before.before.before.before.before.before.before) c.value_of.result
 unfolding field_of field_ok
 by-symbol c l g =
-    let stands = c.before.before in
-    let fits = stands.before.before.before.before in
     rw (
-      stores fits.before.before.before,
-      held (inside fits.before) fits.if1.false,
-      held (aligned stands.before l g.address) stands.if2.false,
-      (c.value_of_lem.ensures l g.sought).0,
+      stores c.before.before.before.before.before.before.before.before.before,
+      held (inside c.before.before.before.before.before.before.before) c.if-not-lies_within.false,
+      held (aligned c.before.before.before l g.address) c.if-not-is_aligned.false,
+      (c.value_of.ensures l g.sought).0,
     )
 
-returns-5 : tie.Need-returns-5
-returns-5 c =
-    let symbol = c.before.before.before.before.before in
-    λ l g. (sym (by-symbol symbol l g ∙ rw c.before.reason.given.1), (symbol.value_of_lem.ensures l g.sought).1)
+returns-in-Refused : tie.Need-returns-in-Refused
+returns-in-Refused c = λ l g. (sym (by-symbol c.before.before.before l g ∙ rw c.in-Refused.is), (c.value_of.ensures l g.sought).1)
 
-add-stored-field : tie.Need-overflow-add-stored-field
-add-stored-field c =
-    let symbol = c.before.before.before.before.before.before.before in
-    let fits = symbol.before.before.before.before.before.before in
-    omega (arith, leb-true, held (inside fits.before) fits.if1.false, (start fits.before.before.before).requires.0)
+overflow_add-area : tie.Need-overflow_add-area
+overflow_add-area c = omega (arith, leb-true, held (inside c.before.before.before.before.before.before.before.before.before.before.before.before) c.if-not-lies_within.false, (start c.before.before.before.before.before.before.before.before.before.before.before.before.before.before).requires.0)
 
-returns-6 : tie.Need-returns-6
-returns-6 c =
-    let told = c.before.before.before.before.before in
-    let symbol = told.before.before.before.before in
-    let address = symbol.before.before.before.before in
-    λ l g. (
-      rw (c.stored-field.ensures, c.before.value.ensures, placed address l g.address)
-          (sym (by-symbol symbol l g ∙ rw told.s.given.1)),
-      (symbol.value_of_lem.ensures l g.sought).1,
-    )
+returns-in-Value : tie.Need-returns-in-Value
+returns-in-Value c = λ l g. (
+  rw (c.stored_field.ensures, c.value.ensures, placed c.before.before.before.before.before.before.before.before.before.before.before l g.address)
+      (sym (by-symbol c.before.before.before.before.before.before.before l g ∙ rw c.in-Value.is)),
+  (c.value_of.ensures l g.sought).1,
+)
 
-pub field-of-spec : {M : Type 1} → statement M
-field-of-spec =
-    tie.close
-    (tie.spec
-    (λ c κs. search rules)
-    (λ c. search rules)
-    returns
-    (λ c. search rules)
-    returns-2
-    (λ c. search rules)
-    (λ c κs. search rules)
-    (λ c κs. search rules)
-    returns-3
-    (λ c κs. search rules)
-    (λ c κs. search rules)
-    (λ c κs. search rules)
-    returns-4
-    (λ c κs. search rules)
-    (λ c. search rules)
-    (λ c. search rules)
-    add-stored-field
-    (λ c κs. search rules)
-    (λ c κs. search rules)
-    (λ c. search rules)
-    returns-5
-    (λ c. search rules)
-    returns-6)
+pub field_of_spec : {M : Type 1} → statement M
+field_of_spec =
+    tie.close (tie.spec (λ c κs. search rules) (λ c. search rules) returns-in-Nothing (λ c. search rules) returns-in-Unknown (λ c. search rules) (λ c κs. search rules) (λ c κs. search rules) returns-then-not-lies_within (λ c κs. search rules) (λ c κs. search rules) (λ c κs. search rules) returns-then-not-is_aligned (λ c κs. search rules) (λ c. search rules) (λ c. search rules) overflow_add-area (λ c κs. search rules) (λ c κs. search rules) (λ c. search rules) returns-in-Refused (λ c. search rules) returns-in-Value)

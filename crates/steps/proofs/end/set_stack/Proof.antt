@@ -14,49 +14,49 @@ use Rattle.steps.proofs.end.set_stack.Tie as tie
 
 module _ (c : tie.Start) where
   ranges : InRange c.args.state
-  ranges = in-range (whole c.args.state _ c.good.0) c.pre.0
+  ranges = in-range (whole c.args.state _ c.well_formed.0) c.requires.0
 
 -- there is a payload to take off
-some : (c : tie.Then1) → 1 ≤ c.before.before.before.args.state.depth
+some : (c : tie.Then-job-eq-REVERT) → 1 ≤ c.args.state.depth
 unfolding stack_fits
 some c =
-    let start = c.before.before.before in
-    leb-true _ _ (rw (eq-eqb _ _ c.if1.taken) at ((ranges start).job start.pre.1).fits)
+    leb-true _ _ (rw (eq-eqb _ _ c.if-job-eq-REVERT.true) at ((ranges c.before.before.before).job c.requires.1).fits)
+
+returns-then-job-eq-REVERT : tie.Need-returns-then-job-eq-REVERT
+unfolding stack_set
+returns-then-job-eq-REVERT c = simp (eq-eqb _ _ c.if-job-eq-REVERT.true)
+
+-- there is room for one more
+room : (c : tie.Then-job-eq-APPLY) → c.args.state.depth < slot_count
+unfolding stack_fits
+room c =
+    let r = ranges c.before.before.before.before.before in
+    let s = c.args.state in
+    let action = s.job.action in
+    let fits : s.depth < s.count =
+    ltb-true _ _ (rw (ne_eqb action revert c.if-job-eq-REVERT.false, eq-eqb action apply c.if-job-eq-APPLY.true) at (r.job c.requires.1).fits) in
+    omega (arith, fits, r.few)
+
+returns-then-job-eq-APPLY : tie.Need-returns-then-job-eq-APPLY
+unfolding stack_set
+returns-then-job-eq-APPLY c = simp (ne_eqb _ _ c.if-job-eq-REVERT.false, eq-eqb _ _ c.if-job-eq-APPLY.true)
 
 returns : tie.Need-returns
 unfolding stack_set
-returns c = simp (eq-eqb _ _ c.if1.taken)
+returns c = simp (ne_eqb _ _ c.if-job-eq-REVERT.false, ne_eqb _ _ c.if-job-eq-APPLY.false)
 
--- there is room for one more
-room : (c : tie.Then2) → c.before.before.before.before.before.args.state.depth < slot_count
-unfolding stack_fits
-room c =
-    let first = c.before.before in
-    let start = first.before.before.before in
-    let r = ranges start in
-    let s = start.args.state in
-    let action = s.job.action in
-    let fits : s.depth < s.count =
-    ltb-true _ _ (rw (ne_eqb action revert first.if1.left, eq-eqb action apply c.if2.taken) at (r.job start.pre.1).fits) in
-    omega (arith, fits, r.few)
+overflow_sub-next : tie.Need-overflow_sub-next
+overflow_sub-next c = omega (arith, some c)
 
-returns-2 : tie.Need-returns-2
-unfolding stack_set
-returns-2 c = simp (ne_eqb _ _ c.before.before.if1.left, eq-eqb _ _ c.if2.taken)
+offset_bounds-next-depth : tie.Need-offset_bounds-next-depth
+offset_bounds-next-depth c = omega (arith, room c)
 
-returns-3 : tie.Need-returns-3
-unfolding stack_set
-returns-3 c = simp (ne_eqb _ _ c.before.before.if1.left, ne_eqb _ _ c.if2.left)
+bounds-next-depth : tie.Need-bounds-next-depth
+bounds-next-depth c = omega (arith, room c)
 
-pub set-stack-spec : {M : Type 1} → statement M
-set-stack-spec =
-    tie.close
-    (tie.spec
-    (λ c. omega (arith, some c))
-    returns
-    (λ c. omega (arith, room c))
-    (λ c. omega (arith, room c))
-    (λ c. omega (arith, room c))
-    returns-2
-    (λ c. search rules)
-    returns-3)
+overflow_add-next : tie.Need-overflow_add-next
+overflow_add-next c = omega (arith, room c)
+
+pub set_stack_spec : {M : Type 1} → statement M
+set_stack_spec =
+    tie.close (tie.spec overflow_sub-next returns-then-job-eq-REVERT offset_bounds-next-depth bounds-next-depth overflow_add-next returns-then-job-eq-APPLY (λ c. search rules) returns)

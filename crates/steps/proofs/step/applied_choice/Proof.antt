@@ -37,75 +37,56 @@ module _ (s : State) (i k n : ℕ) (deep : i < length s.stack) (count : n ≡ (s
 abbrev Removes : Outline → State → Type 0
 Removes o s = Outlines o s × (removing s ≡ removals_in s (reverse (stack_of s))) × (s.job.steps < length (removing s))
 
-abbrev invariant-loop : tie.invariant-loop
-invariant-loop outline rest₀ i₀ rest i = (i ≤ outline.depth) × ((s : State) → Removes outline s → Left s i rest)
+abbrev invariant-loop-i : tie.invariant-loop-i
+invariant-loop-i outline rest₀ i₀ rest i = (i ≤ outline.depth) × ((s : State) → Removes outline s → Left s i rest)
 
-abbrev decreases-loop : tie.decreases-loop
-decreases-loop outline rest₀ i₀ rest i = i
+abbrev decreases-loop-i : tie.decreases-loop-i
+decreases-loop-i outline rest₀ i₀ rest i = i
 
-loop-holds : tie.Need-loop-init invariant-loop decreases-loop
-loop-holds c = (omega arith, λ s h. rw (h.0.depth, h.0.steps) (replacing-next s h.1 h.2))
+loop-i-init : tie.Need-loop-i-init invariant-loop-i decreases-loop-i
+loop-i-init c = (omega arith, λ s h. rw (h.0.depth, h.0.steps) (replacing-next s h.1 h.2))
 
 -- a turn
-module _ (c : tie.After-edits-in invariant-loop decreases-loop) where
-  abbrev looped : tie.At-loop invariant-loop decreases-loop
+module _ (c : tie.After-edits_in-count invariant-loop-i decreases-loop-i) where
+  abbrev looped : tie.At-loop-i invariant-loop-i decreases-loop-i
   looped = c.before.before.before
 
   abbrev o : Outline
-  o = looped.before.args.t1
+  o = looped.before.args.outline
 
   abbrev i : ℕ
-  i = looped.loop.i - 1
+  i = looped.loop-i.i - 1
 
   -- the newest payload of those left, in a state that has the outline
   module _ (s : State) (h : Removes o s) where
     deep : i < length s.stack
-    deep = omega (arith, h.0.stacked, c.before.before.loop-test.true)
+    deep = omega (arith, h.0.stacked, c.loop-i-test.true)
 
-    count : c.edits-in.result ≡ (stacked s i).edit_count
-    count = c.edits-in.ensures s h.0 ∙ ap (λ (l : List ℕ). (payload_in s (get_or l i 0)).edit_count) h.0.stack
+    count : c.edits_in-count.result ≡ (stacked s i).edit_count
+    count = c.edits_in-count.ensures s h.0 ∙ ap (λ (l : List ℕ). (payload_in s (get_or l i 0)).edit_count) h.0.stack
 
-    left : Left s (suc i) looped.loop.rest
+    left : Left s (suc i) looped.loop-i.rest
     left =
-        let back : suc i ≡ looped.loop.i = omega (arith, c.before.before.loop-test.true) in
-        subst⁻¹ (λ (n : ℕ). Left s n looped.loop.rest) back (looped.loop.inv.1 s h)
+        let back : suc i ≡ looped.loop-i.i = omega (arith, c.loop-i-test.true) in
+        subst⁻¹ (λ (n : ℕ). Left s n looped.loop-i.rest) back (looped.loop-i.invariant.1 s h)
 
-returns : tie.Need-returns invariant-loop decreases-loop
+returns-then-rest-count : tie.Need-returns-then-rest-count invariant-loop-i decreases-loop-i
+returns-then-rest-count c = λ s g all early.
+    let h : Removes (o c.before.before) s = (g, all, early) in
+    c.choice_in.ensures s g
+    (omega (arith, c.edits_in-count.ensures s g, c.if-rest-count.true))
+    (rw g.stack (of-newest s (i c.before.before) _ _ (deep c.before.before s h) (count c.before.before s h) (left c.before.before s h) c.if-rest-count.true))
+
+loop-i-preserved : tie.Need-loop-i-preserved invariant-loop-i decreases-loop-i
+loop-i-preserved c = (omega arith, λ s h. of-older s (i c.before) _ _ (deep c.before s h) (count c.before s h) (left c.before s h) c.if-rest-count.false)
+
+returns : tie.Need-returns invariant-loop-i decreases-loop-i
 returns c = λ s g all early.
-    let here = c.before.before in
-    let h : Removes (o here) s = (g, all, early) in
-    c.choice-in.ensures s g
-    (omega (arith, here.edits-in.ensures s g, c.before.if1.true))
-    (rw g.stack (of-newest s (i here) _ _ (deep here s h) (count here s h) (left here s h) c.before.if1.true))
-
-loop-again : tie.Need-loop-preserved invariant-loop decreases-loop
-loop-again c =
-    let here = c.before in
-    (omega arith, λ s h. of-older s (i here) _ _ (deep here s h) (count here s h) (left here s h) c.if1.false)
-
-returns-2 : tie.Need-returns-2 invariant-loop decreases-loop
-returns-2 c = λ s g all early.
-    let l = c.before.loop in
+    let l = c.loop-i in
     let none : l.i ≡ 0 = omega arith in
     let left : Left s 0 l.rest = rw none at (l.invariant.1 s (g, all, early)) in
     absurd (omega (arith, left.0, none-stacked s))
 
-pub applied-choice-spec : {M : Type 1} → statement M
-applied-choice-spec =
-    tie.close
-    (tie.spec
-    invariant-loop
-    decreases-loop
-    loop-holds
-    (λ c. omega arith)
-    (λ c. omega arith)
-    (λ c. omega arith)
-    (λ c κs. search rules)
-    (λ c. omega arith)
-    (λ c. omega arith)
-    (λ c. omega arith)
-    (λ c κs. search rules)
-    returns
-    (λ c. omega arith)
-    loop-again
-    returns-2)
+pub applied_choice_spec : {M : Type 1} → statement M
+applied_choice_spec =
+    tie.close (tie.spec invariant-loop-i decreases-loop-i loop-i-init (λ c. omega arith) (λ c. omega arith) (λ c. omega arith) (λ c κs. search rules) (λ c. omega arith) (λ c. omega arith) (λ c. omega arith) (λ c κs. search rules) returns-then-rest-count (λ c. omega arith) loop-i-preserved returns)

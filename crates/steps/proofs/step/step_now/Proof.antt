@@ -12,48 +12,45 @@ use Rattle.steps.proofs.step.step_now.Statement.{statement}
 use Rattle.steps.proofs.step.step_now.Tie as tie
 
 module _ (c : tie.Start) where
-  all_whole : Whole c.args.t1
-  all_whole = whole c.args.t1 _ c.good.0
+  all_whole : Whole c.args.state
+  all_whole = whole c.args.state _ c.well_formed.0
 
-  ranges : InRange c.args.t1
-  ranges = in-range all_whole c.pre.0
+  ranges : InRange c.args.state
+  ranges = in-range all_whole c.requires.0
 
-choose-requires : tie.Need-choose-requires
-choose-requires c κs =
-    let r = ranges c.before in
-    let told = c.outline-of.ensures in
+choose-choice-requires : tie.Need-choose-choice-requires
+choose-choice-requires c κs = let r = ranges c.before in
+    let told = c.outline_of.ensures in
     (omega (arith, told.count, r.few), omega (arith, told.depth, r.few, r.shallow))
 
-module _ (c : tie.After-choose) where
+module _ (c : tie.After-choose-choice) where
   abbrev begun : tie.Start
   begun = c.before.before
 
-  chosen : Chosen c.choose.result begun.args.t1
-  chosen = c.choose.ensures _ c.before.outline-of.ensures begun.pre.0 begun.pre.1
+  chosen : Chosen c.choose-choice.result begun.args.state
+  chosen = c.choose-choice.ensures _ c.outline_of.ensures begun.requires.0 begun.requires.1
 
-  inside : c.choose.result.place < slot_count
+  inside : c.choose-choice.result.place < slot_count
   inside = omega (arith, chosen.place, (ranges begun).few)
 
-step-for-requires : tie.Need-step-for-requires
-step-for-requires c κs =
-    let start = c.before in
-    omega (arith, (chosen start).number, ((ranges (begun start)).payloads _ (chosen start).place).edits_max)
+step_for-requires : tie.Need-step_for-requires
+step_for-requires c κs = omega (arith, (chosen c.before).number, ((ranges (begun c.before)).payloads _ (chosen c.before).place).edits_max)
 
 returns : tie.Need-returns
-returns c =
-    let start = c.before.before in
-    let choice = start.choose.result in
-    c.step-for.ensures
-    ∙ ap (λ (p : Payload). step_for choice.lays p choice.number) (copied-payload (all_whole (begun start)) choice.place (inside start))
-    ∙ (chosen start).step
+returns c = let choice = c.choose-choice.result in
+    c.step_for.ensures
+    ∙ ap (λ (p : Payload). step_for choice.lays p choice.number) (copied-payload (all_whole (begun c.before.before)) choice.place (inside c.before.before))
+    ∙ (chosen c.before.before).step
 
-pub step-now-spec : {M : Type 1} → statement M
-step-now-spec =
-    tie.close
-    (tie.spec
-    (λ c κs. (ranges c).few)
-    choose-requires
-    (λ c. omega (arith, inside c))
-    (λ c. omega (arith, inside c))
-    step-for-requires
-    returns)
+outline_of-requires : tie.Need-outline_of-requires
+outline_of-requires c κs = (ranges c).few
+
+offset_bounds-state-place : tie.Need-offset_bounds-state-place
+offset_bounds-state-place c = omega (arith, inside c)
+
+bounds-state-place : tie.Need-bounds-state-place
+bounds-state-place c = omega (arith, inside c)
+
+pub step_now_spec : {M : Type 1} → statement M
+step_now_spec =
+    tie.close (tie.spec outline_of-requires choose-choice-requires offset_bounds-state-place bounds-state-place step_for-requires returns)

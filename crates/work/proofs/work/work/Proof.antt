@@ -27,62 +27,50 @@ use Rattle.work.proofs.work.work.Tie as tie
 abbrev given : tie.Start → Lent
 given c = lent c.args.text.now c.args.undo.now
 
-returns : tie.Need-returns
+returns-then-not-sizes_ok : tie.Need-returns-then-not-sizes_ok
 unfolding work_of work_rules
-returns c =
-    let sized = c.before.before in
-    ap (λ (r : Called). worked_with r (given sized.before.before.before)) c.refused.ensures
-    ∙ simp (refuted sized.sizes-ok.ensures c.before.if1.taken)
+returns-then-not-sizes_ok c = ap (λ (r : Called). worked_with r (given c.before.before.before.before.before)) c.refused.ensures
+    ∙ simp (refuted c.sizes_ok.ensures c.if-not-sizes_ok.true)
 
 -- the sizes are right
-module _ (c : tie.Else1) where
+module _ (c : tie.Else-not-sizes_ok) where
   abbrev begun : tie.Start
   begun = c.before.before.before.before
 
   sized : work_sizes_ok begun.args.state (length (given begun).text) (length (given begun).undo) ≡ true
-  sized = held c.before.sizes-ok.ensures c.if1.left
+  sized = held c.sizes_ok.ensures c.if-not-sizes_ok.false
 
-returns-2 : tie.Need-returns-2
+returns-then-job-eq0 : tie.Need-returns-then-job-eq0
 unfolding work_of work_rules
-returns-2 c =
-    let right = c.before.before.before.before in
-    ap (λ (r : Called). worked_with r (given (begun right))) c.refused2.ensures
-    ∙ simp (sized right, eq-eqb _ _ c.before.if2.taken)
+returns-then-job-eq0 c = ap (λ (r : Called). worked_with r (given (begun c.before.before.before.before))) c.refused-then-job-eq0.ensures
+    ∙ simp (sized c.before.before.before.before, eq-eqb _ _ c.if-job-eq0.true)
 
 -- and a job stands
-module _ (c : tie.Else2) where
-  abbrev right : tie.Else1
+module _ (c : tie.Else-job-eq0) where
+  abbrev right : tie.Else-not-sizes_ok
   right = c.before.before.before
 
   ranged : in_range (begun right).args.state ≡ true
   ranged = (sizes-told _ _ _ (sized right)).0
 
   standing : is_standing (begun right).args.state.job ≡ true
-  standing = rw (ne_eqb _ _ c.if2.left)
+  standing = rw (ne_eqb _ _ c.if-job-eq0.false)
 
-returns-3 : tie.Need-returns-3
+returns-then-not-is_complete : tie.Need-returns-then-not-is_complete
 unfolding work_of work_rules
-returns-3 c =
-    let gathered = c.before.before in
-    let stands = gathered.before in
-    ap (λ (r : Called). worked_with r (given (begun (right stands)))) c.refused3.ensures
-    ∙ simp (sized (right stands), standing stands, refuted gathered.is-complete.ensures c.before.if3.taken)
+returns-then-not-is_complete c = ap (λ (r : Called). worked_with r (given (begun (right c.before.before.before)))) c.refused-then-not-is_complete.ensures
+    ∙ simp (sized (right c.before.before.before), standing c.before.before.before, refuted c.is_complete.ensures c.if-not-is_complete.true)
 
 make-requires : tie.Need-make-requires
-make-requires c κs =
-    let stepping = c.before.before in
-    let stands = stepping.before.before.before.before in
-    let start = begun (right stands) in
+make-requires c κs = let start = begun (right c.before.before.before.before.before.before) in
     let s = start.args.state in
-    let w = whole s _ start.good.0 in
-    let r = in-range w (ranged stands) in
-    let sizes = sizes-told _ _ _ (sized (right stands)) in
-    rw stepping.step-now.ensures (ready (next-of-record w r (r.job (standing stands))) (given start) sizes.1 sizes.2)
+    let w = whole s _ start.well_formed.0 in
+    let r = in-range w (ranged c.before.before.before.before.before.before) in
+    let sizes = sizes-told _ _ _ (sized (right c.before.before.before.before.before.before)) in
+    rw c.step_now-step.ensures (ready (next-of-record w r (r.job (standing c.before.before.before.before.before.before))) (given start) sizes.1 sizes.2)
 
-next-state-requires : tie.Need-next-state-requires
-next-state-requires c κs =
-    let stands = c.before.before.before.before.before.before.before.before.before.before.before in
-    (ranged stands, standing stands)
+next_state-next-requires : tie.Need-next_state-next-requires
+next_state-next-requires c κs = (ranged c.before.before.before.before.before.before.before.before.before.before.before, standing c.before.before.before.before.before.before.before.before.before.before.before)
 
 -- all tests passed: the state and the stores after a step
 abbrev passed : State → Lent → Worked
@@ -100,34 +88,20 @@ accepts :
 unfolding work_of work_rules
 accepts s l h g f = rw (h, g, f)
 
-returns-4 : tie.Need-returns-4
-returns-4 c =
-    let making = c.before.before.before.before.before in
-    let stepping = making.before.before.before in
-    let gathered = stepping.before.before in
-    let stands = gathered.before.before in
-    let s = (begun (right stands)).args.state in
-    let l = given (begun (right stands)) in
+returns : tie.Need-returns
+returns c = let s = (begun (right c.before.before.before.before.before.before.before.before.before.before.before.before)).args.state in
+    let l = given (begun (right c.before.before.before.before.before.before.before.before.before.before.before.before)) in
     same-passed
-    c.next-state.ensures
-    (same-made s.config.processor l stepping.step-now.ensures making.make.ensures)
-    ∙ accepts s l (sized (right stands)) (standing stands) (held gathered.before.is-complete.ensures gathered.if3.left)
+    c.next_state-next.ensures
+    (same-made s.config.processor l c.step_now-step.ensures c.make.ensures)
+    ∙ accepts s l (sized (right c.before.before.before.before.before.before.before.before.before.before.before.before)) (standing c.before.before.before.before.before.before.before.before.before.before.before.before) (held c.is_complete.ensures c.if-not-is_complete.false)
 
-pub work-spec : {M : Type 1} → statement M
-work-spec =
-    tie.close
-    (tie.spec
-    (λ c κs. search rules)
-    (λ c κs. search rules)
-    returns
-    (λ c κs. search rules)
-    returns-2
-    (λ c κs. ranged c)
-    (λ c κs. search rules)
-    returns-3
-    (λ c κs. (ranged c.before.before.before, standing c.before.before.before))
-    make-requires
-    next-state-requires
-    (λ c. search rules)
-    (λ c. search rules)
-    returns-4)
+is_complete-requires : tie.Need-is_complete-requires
+is_complete-requires c κs = ranged c
+
+step_now-step-requires : tie.Need-step_now-step-requires
+step_now-step-requires c κs = (ranged c.before.before.before, standing c.before.before.before)
+
+pub work_spec : {M : Type 1} → statement M
+work_spec =
+    tie.close (tie.spec (λ c κs. search rules) (λ c κs. search rules) returns-then-not-sizes_ok (λ c κs. search rules) returns-then-job-eq0 is_complete-requires (λ c κs. search rules) returns-then-not-is_complete step_now-step-requires make-requires next_state-next-requires (λ c. search rules) (λ c. search rules) returns)

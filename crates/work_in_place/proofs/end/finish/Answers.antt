@@ -1,0 +1,33 @@
+-- `end::finish` meets its contract: the payload at the place that was found.
+use mathlib.Core.Path.{sym, ap, ◌∙◌}
+use lib.ListN.{set}
+use Rattle.records.specs.declared.payload.Payload.{Payload}
+use Rattle.state.specs.State.{with_result, with_status, with_payloads}
+use Rattle.state_bytes.specs.Stored.{state_in}
+use Rattle.state_bytes.proofs.Laws.{state-length, holds-still}
+use Rattle.steps.specs.Next.{finished}
+use Rattle.in_place.proofs.Laws.{holds_as, changed-there, changed-nowhere}
+use Rattle.work_in_place.proofs.end.finish.Goals as goal
+
+pub returns-in_default : goal.returns-in_default
+returns-in_default c = let b = c.args.b.now in
+    let nothing = sym c.with_slot.ensures.0 ∙ c.in_default.is in
+    holds_as (holds-still b c.requires.0) (changed-nowhere (finished c.args.action) (state_in b) c.args.slot nothing)
+
+pub returns : goal.returns
+returns c = let s = state_in c.args.b.now in
+    let i = c.in-At.i in
+    let status = c.status_after.result in
+    holds_as c.put_payload.ensures
+    (ap (λ (p : Payload). with_payloads (set s.payloads i (with_status status (with_result 0 p))) s) c.payload-payload.ensures
+    ∙ rw c.status_after.ensures
+    (changed-there (finished c.args.action) s c.args.slot i (sym c.with_slot.ensures.0 ∙ c.in-At.is)))
+
+pub with_slot-requires : goal.with_slot-requires
+with_slot-requires c = (state-length _ c.requires.0, c.requires.1)
+
+pub payload-payload-requires : goal.payload-payload-requires
+payload-payload-requires c = (state-length _ c.requires.0, c.with_slot.ensures.1 _ c.in-At.is)
+
+pub put_payload-requires : goal.put_payload-requires
+put_payload-requires c = (c.requires.0, c.with_slot.ensures.1 _ c.in-At.is)
