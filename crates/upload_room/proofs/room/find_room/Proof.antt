@@ -9,64 +9,38 @@ use borrow.Author.Rules.{rules}
 use Rattle.upload_room.proofs.room.find_room.Statement.{statement}
 use Rattle.upload_room.proofs.room.find_room.Tie as tie
 
-returns : tie.Need-returns
+returns-then-not-is_name : tie.Need-returns-then-not-is_name
 unfolding room_rules
-returns c s same room = rw (refuted c.before.before.is_name.ensures c.before.if1.true) c.refuse.ensures
+returns-then-not-is_name c s same room = rw (refuted c.is_name.ensures c.if-not-is_name.true) c.refuse.ensures
 
-returns-2 : tie.Need-returns-2
+returns-then-not-is_valid : tie.Need-returns-then-not-is_valid
 unfolding room_rules
-returns-2 c s same room =
-    let named = c.before.before.before in
-    rw (held named.before.is_name.ensures named.if1.false, refuted c.before.before.is-valid.ensures c.before.if2.true)
-    c.refuse2.ensures
+returns-then-not-is_valid c s same room = rw (held c.is_name.ensures c.if-not-is_name.false, refuted c.is_valid.ensures c.if-not-is_valid.true)
+    c.refuse-then-not-is_valid.ensures
 
 -- the name is one, and the list is a symbol list
-module _ (c : tie.Else2) where
+module _ (c : tie.Else-not-is_valid) where
   abbrev begun : tie.Start
   begun = c.before.before.before.before.before.before
 
   named : is_name begun.args.name.now ≡ true
-  named = held c.before.before.before.is_name.ensures c.before.before.if1.false
+  named = held c.is_name.ensures c.if-not-is_name.false
 
   listed : valid begun.args.list.now ≡ true
-  listed = held c.before.is-valid.ensures c.if2.false
+  listed = held c.is_valid.ensures c.if-not-is_valid.false
 
-returns-3 : tie.Need-returns-3
+returns-in-At : tie.Need-returns-in-At
 unfolding room_rules
-returns-3 c s same room =
-    let right = c.before.before.before in
-    rw (named right, listed right, ← same, c.before.enum_told.given.1) c.refuse3.ensures
+returns-in-At c s same room = rw (named c.before.before, listed c.before.before, ← same, c.in-At.is) c.refuse-in-At.ensures
 
-returns-4 : tie.Need-returns-4
+returns-in_default-free : tie.Need-returns-in_default-free
 unfolding room_rules
-returns-4 c s same room =
-    let new = c.before.before.before in
-    let right = new.before.before in
-    rw (named right, listed right, ← same, new.enum-told2.given.1, ← room, c.before.enum-told3.given.1) c.refuse4.ensures
+returns-in_default-free c s same room = rw (named c.before.before.before, listed c.before.before.before, ← same, c.in_default.is, ← room, c.in_default-free.is) c.refuse-in_default-free.ensures
 
-returns-5 : tie.Need-returns-5
+returns : tie.Need-returns
 unfolding room_rules
-returns-5 c s same room =
-    let new = c.before.before.before in
-    let right = new.before.before in
-    rw (named right, listed right, ← same, new.enum-told2.given.1, ← room, c.before.free.given.1)
+returns c s same room = rw (named c.before.before, listed c.before.before, ← same, c.in_default.is, ← room, c.in-At-free.is)
 
-pub find-room-spec : {M : Type 1} → statement M
-find-room-spec =
-    tie.close
-    (tie.spec
-    (λ c κs. search rules)
-    (λ c κs. search rules)
-    returns
-    (λ c κs. search rules)
-    (λ c κs. search rules)
-    returns-2
-    (λ c. search rules)
-    (λ c κs. search rules)
-    returns-3
-    (λ c. search rules)
-    (λ c. search rules)
-    (λ c. search rules)
-    (λ c κs. search rules)
-    returns-4
-    returns-5)
+pub find_room_spec : {M : Type 1} → statement M
+find_room_spec =
+    tie.close (tie.spec (λ c κs. search rules) (λ c κs. search rules) returns-then-not-is_name (λ c κs. search rules) (λ c κs. search rules) returns-then-not-is_valid (λ c. search rules) (λ c κs. search rules) returns-in-At (λ c. search rules) (λ c. search rules) (λ c. search rules) (λ c κs. search rules) returns-in_default-free returns)

@@ -12,17 +12,17 @@ use Rattle.upload_room.proofs.Laws.{sizes-told}
 use Rattle.upload_room.proofs.room.room_for.Statement.{statement}
 use Rattle.upload_room.proofs.room.room_for.Tie as tie
 
-returns : tie.Need-returns
+returns-then-not-sizes_ok : tie.Need-returns-then-not-sizes_ok
 unfolding request_rules
-returns c = rw (refuted (c.before.before.sizes-ok.ensures _ c.before.before.before.in-range.ensures) c.before.if1.taken) c.refuse.ensures
+returns-then-not-sizes_ok c = rw (refuted (c.sizes_ok.ensures _ c.in_range.ensures) c.if-not-sizes_ok.true) c.refuse.ensures
 
 -- the sizes are right
-module _ (c : tie.Else1) where
+module _ (c : tie.Else-not-sizes_ok) where
   abbrev start : tie.Start
   start = c.before.before.before.before.before
 
   sizes : upload_sizes_ok start.args.state start.args.arena start.args.ids ≡ true
-  sizes = held (c.before.sizes-ok.ensures _ c.before.before.in-range.ensures) c.if1.left
+  sizes = held (c.sizes_ok.ensures _ c.in_range.ensures) c.if-not-sizes_ok.false
 
   known : in_range start.args.state ≡ true
   known = (sizes-told _ _ _ sizes).0
@@ -30,24 +30,16 @@ module _ (c : tie.Else1) where
   ranges : InRange start.args.state
   ranges = in-range (whole start.args.state _ start.good.0) known
 
-returns-2 : tie.Need-returns-2
+returns : tie.Need-returns
 unfolding request_rules
-returns-2 c =
-    let freeing = c.before in
-    let outlining = freeing.before in
-    let naming = outlining.before in
-    rw (sizes naming.before) (c.find-room.ensures _ naming.with-name.ensures (freeing.free-slot.ensures _ outlining.outline-of.ensures))
+returns c = rw (sizes c.before.before.before.before) (c.find_room.ensures _ c.with_name-loaded.ensures (c.free_slot-free.ensures _ c.outline_of.ensures))
 
-pub room-for-spec : {M : Type 1} → statement M
-room-for-spec =
-    tie.close
-    (tie.spec
-    (λ c κs. search rules)
-    (λ c κs. search rules)
-    (λ c κs. search rules)
-    returns
-    (λ c κs. known c)
-    (λ c κs. omega (arith, (ranges c.before).few))
-    (λ c κs. search rules)
-    (λ c κs. search rules)
-    returns-2)
+with_name-loaded-requires : tie.Need-with_name-loaded-requires
+with_name-loaded-requires c κs = known c
+
+outline_of-requires : tie.Need-outline_of-requires
+outline_of-requires c κs = omega (arith, (ranges c.before).few)
+
+pub room_for_spec : {M : Type 1} → statement M
+room_for_spec =
+    tie.close (tie.spec (λ c κs. search rules) (λ c κs. search rules) (λ c κs. search rules) returns-then-not-sizes_ok with_name-loaded-requires outline_of-requires (λ c κs. search rules) (λ c κs. search rules) returns)
