@@ -1,5 +1,5 @@
--- Get, list and the top build-id over the records buffer, by what the calls on the state answered.
-use Prim.Native.Nat.{ℕ, ◌+◌}
+-- Get, list and the top build_id over the records buffer, by what the calls on the state answered.
+use Prim.Native.Nat.{ℕ}
 use mathlib.Core.Path.{◌≡◌, sym, ap, subst, ◌∙◌}
 use mathlib.Core.Bool.{true, false}
 use mathlib.Core.List.{List, ◌++◌}
@@ -89,7 +89,7 @@ module _ (b : List ℕ) (idx nr : ℕ) (lent : list.Buffers) (out : List ℕ) wh
       (rw (answered, told-v))
       ∙ rw right
 
--- ---- the top build-id
+-- ---- the top build_id
 
 module _ (b build_id ids out : List ℕ) where
   pub top-wrong : {answer : ℕ} → right_buffers b (length out) top_size ≡ false → answer ≡ invalid → asked answer out ≡ top_asked b build_id ids out

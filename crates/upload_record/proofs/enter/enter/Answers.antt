@@ -4,4 +4,4 @@ use Rattle.upload_record.proofs.enter.enter.Goals as goal
 
 pub returns : goal.returns
 returns c = let registered = c.register.ensures in
-    record { value = c.with_uploaded.ensures ∙ rw registered.0; ids_after = registered.1 }
+    record { value = c.with_uploaded.ensures ∙ rw registered.value; ids_after = registered.ids_after }
