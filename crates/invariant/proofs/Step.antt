@@ -44,4 +44,4 @@ sound-step {l} c s = sound (step l c).model (step-parts l c (parts l s))
 pub sound-after : {l : Model} (cs : List Call) → Sound l → Sound (after l cs)
 unfolding after
 sound-after [] s = s
-sound-after (c ∷ cs) s = sound-after cs (sound-step c s)
+sound-after {l = l} (c ∷ cs) s = sound-after {l = (step l c).model} cs (sound-step c s)

@@ -19,7 +19,6 @@ use Rattle.records.specs.Limits.{id_min, id_max, records_max}
 use Rattle.records.specs.Name.{is_name}
 use Rattle.records.specs.Payload.{no_edit}
 use Rattle.records.specs.Verdict.{must}
-use Rattle.records.specs.declared.payload.BuildId.{BuildId}
 use Rattle.records.specs.declared.payload.Edit.{Edit}
 use Rattle.records.specs.declared.refusal.Place.TheVariants.{Nowhere}
 use Rattle.records.specs.declared.refusal.Verdict.TheVariants.{Pass}

@@ -1,1 +1,2 @@
 // What holds of the reference model after any calls: laws alone.
+#![tactic(auto)]

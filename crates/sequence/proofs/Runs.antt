@@ -20,13 +20,17 @@ use Rattle.invariant.proofs.Step.{sound-step}
 use Rattle.refinement.specs.Stands.{Loader, Stands}
 use Rattle.refinement.proofs.Queries.{top-id-handed}
 use Rattle.sequence.specs.Claim.{EveryCallRuns, StartsAccepted}
-use Rattle.sequence.specs.Run.{Bytes, by_start, Turn, by_upload, by_get, by_list, by_act, by_report, by_tick, by_work, by_top_id, Run, end, then}
+use Rattle.sequence.specs.Run.{Bytes, MutBytes, by_start, Turn, by_upload, by_get, by_list, by_act, by_report, by_tick, by_work, by_top_id, Run, end, then}
 use Rattle.sequence.proofs.Sequence.{turn-agrees, started-stands}
 use Rattle.sequence.proofs.Start.{starts}
 
 -- a slice that holds these bytes
 abbrev lent : List ℕ → Bytes
 lent l = record { ref_ptr = (0, 0); now = l }
+
+-- and one that may be written
+abbrev lent-mut : List ℕ → MutBytes
+lent-mut l = record { ref_ptr = (0, 0); ghost_name = 0; now = l }
 
 -- ---- every call has a turn
 
@@ -42,16 +46,16 @@ has-turn {u} k sound (Upload name symbols file) =
           ([], ([], ([], ([], ([], tt)))))
           u.state
           u.text
-          (lent u.arena)
+          (lent-mut u.arena)
           u.undo
-          (lent u.ids)
+          (lent-mut u.ids)
           u.build_id
           (lent name)
           (lent symbols)
           (lent file)
           (record { verdict = x.answer; state = x.state })
-          (lent x.after.arena)
-          (lent x.after.ids)
+          (lent-mut x.after.arena)
+          (lent-mut x.after.ids)
           (uploads _ _ _ refl),
     )
 has-turn {u} k sound (Get name) = (_, _, by_get ([], tt) u (lent name) (get_of u.state name) refl)
@@ -64,13 +68,13 @@ has-turn {u} k sound (ListFrom idx nr b) =
           u
           idx
           nr
-          (lent b.statuses)
-          (lent b.names)
-          (lent b.lengths)
+          (lent-mut b.statuses)
+          (lent-mut b.names)
+          (lent-mut b.lengths)
           x.answer
-          (lent x.after.statuses)
-          (lent x.after.names)
-          (lent x.after.lengths)
+          (lent-mut x.after.statuses)
+          (lent-mut x.after.names)
+          (lent-mut x.after.lengths)
           refl,
     )
 has-turn {u} k sound (Act name command time) =
@@ -82,17 +86,17 @@ has-turn {u} k sound (Act name command time) =
           ([], ([], ([], ([], ([], tt)))))
           u.state
           u.text
-          (lent u.arena)
-          (lent u.undo)
-          (lent u.ids)
+          (lent-mut u.arena)
+          (lent-mut u.undo)
+          (lent-mut u.ids)
           (lent u.build_id)
           (lent name)
           command
           time
           (record { verdict = x.answer; state = x.state })
-          (lent x.after.arena)
-          (lent x.after.undo)
-          (lent x.after.ids)
+          (lent-mut x.after.arena)
+          (lent-mut x.after.undo)
+          (lent-mut x.after.ids)
           refl,
     )
 has-turn {u} k sound (Report cpu) =
@@ -106,14 +110,14 @@ has-turn {u} k sound Work =
       by_work
           ([], ([], tt))
           u.state
-          (lent u.text)
+          (lent-mut u.text)
           u.arena
-          (lent u.undo)
+          (lent-mut u.undo)
           u.ids
           u.build_id
           (record { verdict = x.answer; state = x.state })
-          (lent x.after.text)
-          (lent x.after.undo)
+          (lent-mut x.after.text)
+          (lent-mut x.after.undo)
           refl,
     )
 has-turn {u} k sound TopId = (
@@ -139,7 +143,7 @@ has-run {u} k sound [] = ([], u, end)
 has-run {u} {l} k sound (c ∷ cs) =
     let t = has-turn k sound c in
     let next = (turn-agrees l t.2 k sound).1 in
-    let r = has-run next (sound-step c sound) cs in
+    let r = has-run {u = t.1} next (sound-step c sound) cs in
     (t.0 ∷ r.0, r.1, then t.2 r.2)
 
 pub every-call-runs : EveryCallRuns
@@ -156,15 +160,15 @@ starts-accepted a right = (
       ([], ([], ([], ([], ([], tt)))))
       (lent a.text)
       a.text_base
-      (lent (replicate arena_size 0))
+      (lent-mut (replicate arena_size 0))
       a.arena_base
-      (lent (replicate undo_size 0))
-      (lent (replicate ids_size 0))
+      (lent-mut (replicate undo_size 0))
+      (lent-mut (replicate ids_size 0))
       (lent a.build_id)
       a.cpus
       (record { verdict = Pass; state = _ })
-      (lent (replicate arena_size 0))
-      (lent (replicate undo_size 0))
-      (lent (replicate ids_size 0))
+      (lent-mut (replicate arena_size 0))
+      (lent-mut (replicate undo_size 0))
+      (lent-mut (replicate ids_size 0))
       (starts a right),
 )

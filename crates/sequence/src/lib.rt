@@ -1,4 +1,6 @@
 // The claim about every sequence of calls, carried by functions without a body, so that the gate lists it among what is proved.
+#![tactic(auto)]
+
 ghost use Rattle.sequence.specs.Claim.{EverySequence, StartsAccepted, EveryCallRuns};
 
 // After an accepted start-up, whatever calls are made, every reply is the model's, and so are list and memory.
