@@ -1,4 +1,6 @@
 // Get, list and the top build_id over the records buffer. No function asks anything of its caller.
+#![tactic(auto)]
+
 ghost use Rattle.std.specs.Prelude.{◌≡◌, ◌++◌, length};
 ghost use Rattle.words.specs.Number.{le_bytes};
 ghost use Rattle.queries.specs.Get.{get_of};

@@ -16,69 +16,54 @@ use Rattle.state_bytes.proofs.Laws.{whole_in}
 use Rattle.questions.proofs.get_in.Statement.{statement}
 use Rattle.questions.proofs.get_in.Tie as tie
 
-returns : tie.Need-returns
-returns c = c.refuse.ensures ∙ get-out _ _ (refuted c.before.before.in-range.ensures c.before.if1.taken)
+returns-then-not-in_range : tie.Need-returns-then-not-in_range
+returns-then-not-in_range c = c.refuse.ensures ∙ get-out _ _ (refuted c.in_range.ensures c.if-not-in_range.true)
 
 -- the numbers are in range
-module _ (c : tie.Else1) where
+module _ (c : tie.Else-not-in_range) where
   abbrev start : tie.Start
   start = c.before.before.before.before
 
   right : in_range (state_in start.args.records.now) ≡ true
-  right = held c.before.in-range.ensures c.if1.left
+  right = held c.in_range.ensures c.if-not-in_range.false
 
 -- and the name is one
-module _ (c : tie.Else2) where
-  abbrev ranged : tie.Else1
+module _ (c : tie.Else-not-is_name) where
+  abbrev ranged : tie.Else-not-in_range
   ranged = c.before.before
 
   named : is_name (start ranged).args.name.now ≡ true
-  named = held c.before.is_name.ensures c.if2.left
+  named = held c.is_name.ensures c.if-not-is_name.false
 
-returns-2 : tie.Need-returns-2
-returns-2 c =
-    c.refuse2.ensures
-    ∙ get-unnamed _ _ (right c.before.before.before) (refuted c.before.before.is_name.ensures c.before.if2.taken)
+returns-then-not-is_name : tie.Need-returns-then-not-is_name
+returns-then-not-is_name c = c.refuse-then-not-is_name.ensures
+    ∙ get-unnamed _ _ (right c.before.before.before) (refuted c.is_name.ensures c.if-not-is_name.true)
 
-returns-3 : tie.Need-returns-3
-returns-3 c =
-    let finding = c.before.before.before in
-    let two = finding.before in
-    c.refuse3.ensures
-    ∙ get-missing _ _ (right (ranged two)) (named two) (sym finding.with-name.ensures ∙ c.before.enum_told.given.1)
+returns-in_default : tie.Need-returns-in_default
+returns-in_default c = c.refuse-in_default.ensures
+    ∙ get-missing _ _ (right (ranged c.before.before.before)) (named c.before.before.before) (sym c.with_name.ensures ∙ c.in_default.is)
 
 -- what was found is in the list
-inside : (c : tie.After-known-told) → c.before.i.given.0.0 < slot_count
+inside : (c : tie.In-At) → c.in-At.i < slot_count
 inside c =
-    let found = c.before.before.before in
-    let here = ranged found.before in
-    let hit = name-hit (state_in (start here).args.records.now) _ _ (sym found.with-name.ensures ∙ c.before.i.given.1) in
-    omega (arith, hit, (in-range (whole_in _ (start here).pre) (right here)).few)
+    let here = ranged c.before.before in
+    let hit = name-hit (state_in (start here).args.records.now) _ _ (sym c.with_name.ensures ∙ c.in-At.is) in
+    omega (arith, hit, (in-range (whole_in _ (start here).requires) (right here)).few)
 
-returns-4 : tie.Need-returns-4
-returns-4 c =
-    let known = c.before.before in
-    let finding = known.before.before.before in
-    let two = finding.before in
-    c.answer.ensures
-    ∙ ap got c.before.payload.ensures
-    ∙ get-found _ _ (right (ranged two)) (named two) _ (sym finding.with-name.ensures ∙ known.before.i.given.1)
+returns : tie.Need-returns
+returns c = c.answer.ensures
+    ∙ ap got c.payload.ensures
+    ∙ get-found _ _ (right (ranged c.before.before.before.before)) (named c.before.before.before.before) _ (sym c.with_name.ensures ∙ c.in-At.is)
 
-pub get-in-spec : {M : Type 1} → statement M
-get-in-spec =
-    tie.close
-    (tie.spec
-    (λ c κs. c.before.before.pre)
-    (λ c κs. search rules)
-    returns
-    (λ c κs. search rules)
-    (λ c κs. search rules)
-    returns-2
-    (λ c κs. ((start (ranged c)).pre, right (ranged c)))
-    (λ c. search rules)
-    (λ c. search rules)
-    (λ c κs. search rules)
-    returns-3
-    (λ c κs. ((start c.before.before.before.before.before.before).pre, inside c))
-    (λ c κs. search rules)
-    returns-4)
+in_range-requires : tie.Need-in_range-requires
+in_range-requires c κs = c.requires
+
+with_name-requires : tie.Need-with_name-requires
+with_name-requires c κs = ((start (ranged c)).requires, right (ranged c))
+
+payload-requires : tie.Need-payload-requires
+payload-requires c κs = ((start c.before.before.before.before).requires, inside c)
+
+pub get_in_spec : {M : Type 1} → statement M
+get_in_spec =
+    tie.close (tie.spec in_range-requires (λ c κs. search rules) returns-then-not-in_range (λ c κs. search rules) (λ c κs. search rules) returns-then-not-is_name with_name-requires (λ c. search rules) (λ c. search rules) (λ c κs. search rules) returns-in_default payload-requires (λ c κs. search rules) returns)

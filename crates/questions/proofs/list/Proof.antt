@@ -15,66 +15,39 @@ use Rattle.questions.proofs.QuestionLaws.{right-out, right-records, list-wrong, 
 use Rattle.questions.proofs.list.Statement.{statement}
 use Rattle.questions.proofs.list.Tie as tie
 
-returns : tie.Need-returns
-returns c =
-    list-wrong _ _ _ _ _ (refuted c.before.before.before.right-buffers.ensures c.before.before.if1.true)
-    (told-invalid c.before.new.ensures c.code.ensures)
+returns-then-not-right_buffers : tie.Need-returns-then-not-right_buffers
+returns-then-not-right_buffers c = list-wrong _ _ _ _ _ (refuted c.right_buffers.ensures c.if-not-right_buffers.true)
+    (told-invalid c.new.ensures c.code.ensures)
 
-module _ (c : tie.Else1) where
+module _ (c : tie.Else-not-right_buffers) where
   abbrev start : tie.Start
   start = c.before.before.before.before.before.before.before
 
   right : right_buffers start.args.records.now (length start.args.out.now) list_size ≡ true
-  right = held c.before.right-buffers.ensures c.if1.false
+  right = held c.right_buffers.ensures c.if-not-right_buffers.false
 
-returns-2 : tie.Need-returns-2
-returns-2 c =
-    let calling = c.before.before.before.before.before.before.before.before.before.before in
-    let loading = calling.before.before.before.before in
-    let passed = loading.before in
-    let a = (start passed).args in
+returns-in-Refuse : tie.Need-returns-in-Refuse
+returns-in-Refuse c = let a = (start c.before.before.before.before.before.before.before.before.before.before.before.before.before).args in
     let lent = buffers a.statuses.now a.names.now a.lengths.now in
-    list-told a.records.now a.idx a.nr lent a.out.now calling.list.result (Refuse _) _ (right passed)
-    (calling.list.ensures ∙ ap (λ (s : State). list_of s a.idx a.nr lent) loading.load.ensures)
-    c.before.before.verdict.given.1
-    (ap (λ (n : ℕ). asked n a.out.now) c.code2.ensures)
+    list-told a.records.now a.idx a.nr lent a.out.now c.list-listed.result (Refuse _) _ (right c.before.before.before.before.before.before.before.before.before.before.before.before.before)
+    (c.list-listed.ensures ∙ ap (λ (s : State). list_of s a.idx a.nr lent) c.load.ensures)
+    c.in-Refuse.is
+    (ap (λ (n : ℕ). asked n a.out.now) c.code-in-Refuse.ensures)
 
-returns-3 : tie.Need-returns-3
-returns-3 c =
-    let writing = c.before.before in
-    let told = writing.before.before in
-    let calling = told.before.before.before.before.before.before.before.before in
-    let loading = calling.before.before.before.before in
-    let passed = loading.before in
-    let a = (start passed).args in
+returns : tie.Need-returns
+returns c = let a = (start c.before.before.before.before.before.before.before.before.before.before.before.before.before.before.before.before).args in
     let lent = buffers a.statuses.now a.names.now a.lengths.now in
-    list-told a.records.now a.idx a.nr lent a.out.now calling.list.result Pass _ (right passed)
-    (calling.list.ensures ∙ ap (λ (s : State). list_of s a.idx a.nr lent) loading.load.ensures)
-    told.enum_told.given.1
-    (ap (λ (l : List ℕ). asked 0 l) writing.write-three.ensures)
+    list-told a.records.now a.idx a.nr lent a.out.now c.list-listed.result Pass _ (right c.before.before.before.before.before.before.before.before.before.before.before.before.before.before.before.before)
+    (c.list-listed.ensures ∙ ap (λ (s : State). list_of s a.idx a.nr lent) c.load.ensures)
+    c.in_default.is
+    (ap (λ (l : List ℕ). asked 0 l) c.write_three.ensures)
 
-pub list-spec : {M : Type 1} → statement M
-list-spec =
-    tie.close
-    (tie.spec
-    (λ c κs. search rules)
-    (λ c κs. search rules)
-    (λ c κs. search rules)
-    returns
-    (λ c κs. right-records (start c).args.records.now (length (start c).args.out.now) list_size (right c))
-    (λ c κs. search rules)
-    (λ c. search rules)
-    (λ c κs. search rules)
-    (λ c. search rules)
-    (λ c. search rules)
-    (λ c. search rules)
-    returns-2
-    (λ c. search rules)
-    (λ c κs.
-    let passed = c.before.before.before.before.before.before.before.before.before.before.before.before.before.before in
-    right-out (start passed).args.records.now (length (start passed).args.out.now) list_size (right passed))
-    (λ c. search rules)
-    (λ c. search rules)
-    (λ c. search rules)
-    (λ c. search rules)
-    returns-3)
+load-requires : tie.Need-load-requires
+load-requires c κs = right-records (start c).args.records.now (length (start c).args.out.now) list_size (right c)
+
+write_three-requires : tie.Need-write_three-requires
+write_three-requires c κs = right-out (start c.before.before.before.before.before.before.before.before.before.before.before.before.before).args.records.now (length (start c.before.before.before.before.before.before.before.before.before.before.before.before.before).args.out.now) list_size (right c.before.before.before.before.before.before.before.before.before.before.before.before.before)
+
+pub list_spec : {M : Type 1} → statement M
+list_spec =
+    tie.close (tie.spec (λ c κs. search rules) (λ c κs. search rules) (λ c κs. search rules) returns-then-not-right_buffers load-requires (λ c κs. search rules) (λ c. search rules) (λ c κs. search rules) (λ c. search rules) (λ c. search rules) (λ c. search rules) returns-in-Refuse (λ c. search rules) write_three-requires (λ c. search rules) (λ c. search rules) (λ c. search rules) (λ c. search rules) returns)

@@ -14,59 +14,45 @@ use Rattle.questions.proofs.QuestionLaws.{right-out, right-records, top-wrong, t
 use Rattle.questions.proofs.top_build_id.Statement.{statement}
 use Rattle.questions.proofs.top_build_id.Tie as tie
 
-returns : tie.Need-returns
-returns c =
-    top-wrong _ _ _ _ (refuted c.before.before.before.right-buffers.ensures c.before.before.if1.true)
-    (told-invalid c.before.new.ensures c.code.ensures)
+returns-then-not-right_buffers : tie.Need-returns-then-not-right_buffers
+returns-then-not-right_buffers c = top-wrong _ _ _ _ (refuted c.right_buffers.ensures c.if-not-right_buffers.true)
+    (told-invalid c.new.ensures c.code.ensures)
 
-module _ (c : tie.Else1) where
+module _ (c : tie.Else-not-right_buffers) where
   abbrev start : tie.Start
   start = c.before.before.before.before.before.before
 
   right : right_buffers start.args.records.now (length start.args.out.now) top_size ≡ true
-  right = held c.before.right-buffers.ensures c.if1.false
+  right = held c.right_buffers.ensures c.if-not-right_buffers.false
 
 -- the test of the sizes is that of the state in the records
-module _ (c : tie.After-sizes-ok) where
-  abbrev passed : tie.Else1
+module _ (c : tie.After-sizes_ok) where
+  abbrev passed : tie.Else-not-right_buffers
   passed = c.before.before
 
-  sizes : c.sizes-ok.result ≡ id_sizes_ok (state_in (start passed).args.records.now) (length (start passed).args.build_id.now) (length (start passed).args.ids.now)
+  sizes : c.sizes_ok.result ≡ id_sizes_ok (state_in (start passed).args.records.now) (length (start passed).args.build_id.now) (length (start passed).args.ids.now)
   sizes =
       let a = (start passed).args in
-      c.sizes-ok.ensures ∙ ap (λ (s : State). id_sizes_ok s (length a.build_id.now) (length a.ids.now)) c.before.load.ensures
+      c.sizes_ok.ensures ∙ ap (λ (s : State). id_sizes_ok s (length a.build_id.now) (length a.ids.now)) c.load-state.ensures
 
-returns-2 : tie.Need-returns-2
-returns-2 c =
-    let testing = c.before.before.before in
-    top-refused _ _ _ _ (right (passed testing)) (refuted (sizes testing) c.before.before.if2.true)
-    (told-invalid c.before.new2.ensures c.code2.ensures)
+returns-then-not-sizes_ok : tie.Need-returns-then-not-sizes_ok
+returns-then-not-sizes_ok c = top-refused _ _ _ _ (right (passed c.before.before.before)) (refuted (sizes c.before.before.before) c.if-not-sizes_ok.true)
+    (told-invalid c.new-then-not-sizes_ok.ensures c.code-then-not-sizes_ok.ensures)
 
-returns-3 : tie.Need-returns-3
-returns-3 c =
-    let writing = c.before.before in
-    let placing = writing.before.before in
-    let testing = placing.before.before in
-    top-told _ _ _ _ placing.top-place.result (right (passed testing)) (held (sizes testing) placing.before.if2.false)
-    (placing.top-place.ensures ∙ ap top_place testing.before.load.ensures)
-    writing.write-three.ensures
+returns : tie.Need-returns
+returns c = top-told _ _ _ _ c.top_place-place.result (right (passed c.before.before.before.before.before.before)) (held (sizes c.before.before.before.before.before.before) c.if-not-sizes_ok.false)
+    (c.top_place-place.ensures ∙ ap top_place c.load-state.ensures)
+    c.write_three.ensures
 
-pub top-build-id-spec : {M : Type 1} → statement M
-top-build-id-spec =
-    tie.close
-    (tie.spec
-    (λ c κs. search rules)
-    (λ c κs. search rules)
-    (λ c κs. search rules)
-    returns
-    (λ c κs. right-records (start c).args.records.now (length (start c).args.out.now) top_size (right c))
-    (λ c κs. search rules)
-    (λ c κs. search rules)
-    (λ c κs. search rules)
-    returns-2
-    (λ c κs. (sizes-told _ _ _ (held c.before.sizes-ok.ensures c.if2.false)).ranges)
-    (λ c κs.
-    let passed = c.before.before.before.before.before in
-    right-out (start passed).args.records.now (length (start passed).args.out.now) top_size (right passed))
-    (λ c. search rules)
-    returns-3)
+load-state-requires : tie.Need-load-state-requires
+load-state-requires c κs = right-records (start c).args.records.now (length (start c).args.out.now) top_size (right c)
+
+top_place-place-requires : tie.Need-top_place-place-requires
+top_place-place-requires c κs = (sizes-told _ _ _ (held c.sizes_ok.ensures c.if-not-sizes_ok.false)).ranges
+
+write_three-requires : tie.Need-write_three-requires
+write_three-requires c κs = right-out (start c.before.before.before.before.before).args.records.now (length (start c.before.before.before.before.before).args.out.now) top_size (right c.before.before.before.before.before)
+
+pub top_build_id_spec : {M : Type 1} → statement M
+top_build_id_spec =
+    tie.close (tie.spec (λ c κs. search rules) (λ c κs. search rules) (λ c κs. search rules) returns-then-not-right_buffers load-state-requires (λ c κs. search rules) (λ c κs. search rules) (λ c κs. search rules) returns-then-not-sizes_ok top_place-place-requires write_three-requires (λ c. search rules) returns)
