@@ -28,18 +28,6 @@ static uint8_t undo[URDDOLWY_UNDO_SIZE];
 static uint8_t ids[URDDOLWY_IDS_SIZE];
 static uint8_t records[URDDOLWY_RECORDS_SIZE];
 
-/* The length of the no-op at `code`, 0 where there is none: nop, or one with an operand in memory, whose ModRM byte says whether a SIB byte
- * and a displacement follow; either may have a prefix. */
-static unsigned no_op(const uint8_t *code)
-{
-    static const unsigned displacement[4] = {0, 1, 4, 0};
-    unsigned prefix = code[0] == 0x66;
-    code += prefix;
-    if (code[0] == 0x90)
-        return prefix + 1;
-    return code[0] == 0x0f && code[1] == 0x1f ? prefix + 3 + (code[2] % 8 == 4) + displacement[code[2] >> 6] : 0;
-}
-
 /* What a function returns, run by a CPU that knows mov, jmp, nop and ret, in text and arena; -1 where it meets anything else. */
 static int returned(uint64_t at)
 {
@@ -51,12 +39,11 @@ static int returned(uint64_t at)
         const uint8_t *code = in_text ? text + (at - text_base) : arena + (at - arena_base);
         if (code[0] == 0xc3)
             return eax;
-        unsigned skipped = no_op(code);
         if (code[0] == 0xb8)
             eax = (int)little(code + 1, 4);
-        else if (code[0] != 0xe9 && skipped == 0)
+        else if (code[0] != 0xe9 && code[0] != 0x90)
             break;
-        at += skipped > 0 ? skipped : 5;
+        at += code[0] == 0x90 ? 1 : 5;
         if (code[0] == 0xe9)
             at += (uint64_t)(int64_t)(int32_t)little(code + 1, 4);
     }

@@ -47,7 +47,7 @@ static void session(void)
     same("the jump", CODE, 0, "\xe9\xfb\xff\x1f\x00\xa5", 6);
     same("the bytes that it covers", UNDO, 0, "\xa5\xa5\xa5\xa5\xa5\0", 6);
     expect("work", work(), 0);
-    same("the no-op", CODE, 16, "\x66\x0f\x1f\x84\0\0\0\0\0\xa5", 10);
+    same("the no-ops", CODE, 16, "\x90\x90\x90\x90\x90\x90\x90\x90\x90\xa5", 10);
     refused("work", "no job", work, URDDOLWY_INVALID);
     field("applied", 40, 8, 1);
     set_payload("two!", "one!");

@@ -46,7 +46,7 @@ static void set_name(const char *word)
     memcpy(lent[NAME].at, word, lent[NAME].len);
 }
 
-/* The payload with this id, on that one: new code for f, a no-op of 9 bytes for g. */
+/* The payload with this id, on that one: new code for f, 9 no-ops for g. */
 static void set_payload(const char *id, const char *depends)
 {
     struct patch patch = {{0}, {0}, 2, {{"f", 8, (const uint8_t *)"\xb8\x02\0\0\0\xc3", 6}, {"g", 16, NULL, 9}}};

@@ -169,7 +169,7 @@ static void prepares(void)
     const uint8_t *last = out.edits + LAST * URDDOLWY_EDIT_SIZE, *summary = out.summary;
     expect("the last edit's address", little(last, 8), text_base + LAST * FUNCTION_SIZE);
     expect("its length", little(last + 8, 4), NO_OPS);
-    expect("its bytes, and one behind them", memcmp(last + 12, "\x66\x0f\x1f\x84\0\0\0\0\0", NO_OPS + 1) != 0, 0);
+    expect("its last byte, and one behind it", little(last + 12 + NO_OPS - 1, 2), 0x90);
     expect("the end of the edits", little(out.edits + out_sizes[1] - 1, 2), FILLED << 8);
     expect("edits and lengths of the ids", memcmp(summary + 4, "\x20\0\0\0\x40\0\0\0\x40\0\0", 12) != 0, 0);
     for (int i = 0; i < URDDOLWY_BUILD_ID_MAX; i++)

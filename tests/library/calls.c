@@ -90,7 +90,7 @@ static struct input whole(const uint8_t *file, size_t n)
 
 static void accepted(const uint8_t *file, size_t n)
 {
-    static const uint8_t printk[21] = "\xb9\xfb\x15\x80\xd0\x82\xff\xff\x09\0\0\0\x66\x0f\x1f\x84\0\0\0\0\0";
+    static const uint8_t printk[21] = "\xb9\xfb\x15\x80\xd0\x82\xff\xff\x09\0\0\0\x90\x90\x90\x90\x90\x90\x90\x90\x90";
     static uint8_t both[FILE_MAX];
     struct input in = whole(file, n);
     check_symbols("accepted", &in, 0);

@@ -1,6 +1,4 @@
 /* The text that the native run patches: functions without data, linked at the address where they run. */
-#include "lengths.h"
-
 #define FUNCTION __attribute__((noipa, used))
 
 FUNCTION int version(void)
@@ -41,21 +39,3 @@ __asm__("        .balign 16\n"
         "        .size denied, . - denied\n"
         "        ret\n"
         "        .size admitted, . - admitted\n");
-
-/* int filled_N(void) for each length N: -1; it would be 0 without the part `fill_N`, N instructions of a byte each that set the carry flag.
- * There %rax is 0, so that an instruction which reads memory by it ends the program. */
-#define FILLED(N) \
-    __asm__("        .balign 16\n" \
-            "        .globl filled_" #N ", fill_" #N "\n" \
-            "        .type filled_" #N ", @function\n" \
-            "        .type fill_" #N ", @function\n" \
-            "filled_" #N ": xor %eax, %eax\n" \
-            "fill_" #N ":\n" \
-            "        .rept " #N "\n" \
-            "        stc\n" \
-            "        .endr\n" \
-            "        .size fill_" #N ", . - fill_" #N "\n" \
-            "        sbb %eax, %eax\n" \
-            "        ret\n" \
-            "        .size filled_" #N ", . - filled_" #N "\n");
-EACH_LENGTH(FILLED)

@@ -27,7 +27,6 @@ shown() { # WORDS
 
 shown 'A list of one name, and an audit'
 shown 'A refusal'
-shown 'A fill of 13 bytes'
 # shellcheck disable=SC2016
 block '`weak.c`, ' >guide/weak.c
 shown 'Weak names that the list does not have'

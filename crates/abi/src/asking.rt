@@ -1,4 +1,4 @@
-// Get, list and the top build_id.
+// Get, list and the top build-id.
 ghost use Rattle.std.specs.Prelude.{◌≡◌, length};
 ghost use Rattle.listing.specs.List.{buffers};
 ghost use Rattle.questions.specs.Questions.{asked, get_asked, list_asking, list_asked, top_asked};
@@ -29,7 +29,7 @@ pub extern "C" fn urddolwy_list(
     questions::list(records, idx, nr, statuses, names, lengths, out)
 }
 
-// Where the top build_id stands: in which buffer, from where on, and its length.
+// Where the top build-id stands: in which buffer, from where on, and its length.
 #[unsafe(no_mangle)]
 pub extern "C" fn urddolwy_top_build_id(
     records: &[u8],

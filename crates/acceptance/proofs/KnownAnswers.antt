@@ -18,7 +18,7 @@ use Rattle.records.specs.declared.refusal.Place.TheVariants.{Record}
 use Rattle.elf.specs.Layout.{note_of}
 use Rattle.elf.specs.declared.Relocation as elf
 use Rattle.machine.specs.Machine.{edit_bytes}
-use Rattle.machine.specs.X86.{x86_64, fits_four_bytes, type_of, jump_length, displacement_of, is_fill_size, no_op_forms, no_op, no_ops}
+use Rattle.machine.specs.X86.{x86_64, fits_four_bytes, type_of, jump_length, displacement_of, is_fill_size}
 use Rattle.machine.specs.declared.fields.FieldType.TheVariants as field
 use Rattle.machine.specs.declared.processor.Processor.TheVariants.{X86_64}
 use Rattle.notes.specs.Notes.{id_length, note_head_ok, note_ok}
@@ -39,7 +39,7 @@ use Rattle.acceptance.specs.Known.{Relative, Plain, Jumps, bytes_for, KnownAnswe
 -- ---- K1, K2, K8, K9: records
 
 module _ (p : Patching) (at old : ℕ) (f : FunctionRecord) where
-  -- x86_64 refuses no address
+  -- x86-64 refuses no address
   addresses-ok : p.host.processor ≡ X86_64 → addresses_ok p old f ≡ true
   addresses-ok machine = rw machine
 
@@ -124,7 +124,7 @@ long-id note d e long = by-test (note_ok note) refl
 
 pub known-answers : KnownAnswers
 unfolding wrapping_sum wrapping_difference signed fits le le_at le_bytes part all_zero note_of
-    displacement_of is_fill_size no_op_forms no_op no_ops fits_four_bytes edit_bytes is_placed next_multiple end_before offset_of note_head_ok note_ok
+    displacement_of is_fill_size fits_four_bytes edit_bytes is_placed next_multiple end_before offset_of note_head_ok note_ok
 known-answers =
     record {
       k1 = λ p at f jumps. jump-bytes p at _ _ f jumps refl refl;

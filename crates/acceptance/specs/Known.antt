@@ -38,7 +38,7 @@ pub record Relative (l : Linking) (area : Area) (r : elf.Relocation) (v : ℕ) :
   pub resolved : symbol_value l r.r_symbol ≡ Value symbol
   pub result : wrapping_difference (wrapping_sum symbol r.r_addend) (field_address l area r) ≡ v
 
--- a record on x86_64 with nothing against it but what its kind of edit asks
+-- a record on x86-64 with nothing against it but what its kind of edit asks
 pub record Plain (p : Patching) (at old : ℕ) (f : FunctionRecord) : Type 0 where
   pub machine : p.host.processor ≡ X86_64
   pub form : form_ok p.placed at f ≡ true
@@ -76,10 +76,6 @@ placed_section size align =
 abbrev pub note_with : ℕ → List ℕ
 note_with d =
     le_bytes 4 4 ++ le_bytes 4 d ++ le_bytes 4 3 ++ (0x47 ∷ 0x4e ∷ 0x55 ∷ 0x00 ∷ []) ++ replicate d 0xff ++ replicate (padded d - d) 0
-
--- the no-op instruction of nine bytes
-abbrev pub nine_no_op : List ℕ
-nine_no_op = 0x66 ∷ 0x0f ∷ 0x1f ∷ 0x84 ∷ 0x00 ∷ 0x00 ∷ 0x00 ∷ 0x00 ∷ 0x00 ∷ []
 
 -- ---- the rows
 
@@ -130,10 +126,10 @@ pub record KnownAnswers : Type 0 where
   pub k7_65 :
       (file : List ℕ) (ss : List SectionEntry) (i : ℕ) (rest : Verdict) → is_note_kind (section_in ss i).kind ≡ true →
       id_length (contents_of file (section_in ss i).header) ≡ 65 → one_note file ss i rest ≡ must false 22 (Section i)
-  -- "K8 NOP 31 stands, 32 refused"; by W5 in three nines and a four
+  -- "K8 NOP 31 stands, 32 refused"
   pub k8_stands :
       (p : Patching) (at old : ℕ) (f : FunctionRecord) → Plain p at old f → f.new_addr ≡ 0 → f.new_size ≡ 31 → 31 ≤ f.old_size →
-      bytes_for (edit_from p at old f) ≡ nine_no_op ++ nine_no_op ++ nine_no_op ++ (0x0f ∷ 0x1f ∷ 0x40 ∷ 0x00 ∷ [])
+      bytes_for (edit_from p at old f) ≡ replicate 31 0x90
   pub k8_refused :
       (p : Patching) (at old r : ℕ) (f : FunctionRecord) → p.host.processor ≡ X86_64 → f.new_addr ≡ 0 → f.new_size ≡ 32 →
       edit_verdict (edit_from p at old f) r ≡ must false 22 (Record r)

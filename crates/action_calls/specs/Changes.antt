@@ -20,7 +20,7 @@ pub record Memory : Type 0 where
 abbrev pub memory : List ℕ → List ℕ → List ℕ → Memory
 memory arena undo ids = record { arena = arena; undo = undo; ids = ids }
 
--- what start-up is lent: text and its base, arena and its base, both stores, the build_id, the CPU count
+-- what start-up is lent: text and its base, arena and its base, both stores, the build-id, the CPU count
 abbrev pub start_lent : List ℕ → ℕ → List ℕ → ℕ → List ℕ → List ℕ → List ℕ → ℕ → start.Lent
 start_lent text text_base arena arena_base undo ids build_id cpus =
     record {

@@ -40,7 +40,7 @@ use Rattle.ranges.specs.Ranges.{in_range}
 use Rattle.queries.specs.TopId.{top_slot, top_id}
 use Rattle.actions.specs.declared.rules.Target.{Target}
 
--- what an action is lent besides the state: arena and both stores, which it may write, and the hypervisor's build_id
+-- what an action is lent besides the state: arena and both stores, which it may write, and the hypervisor's build-id
 pub record Lent : Type 0 where
   pub arena : List ℕ
   pub undo : List ℕ

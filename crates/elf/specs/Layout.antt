@@ -1,4 +1,4 @@
--- The ELF g_a_b_i's layouts, 64-bit and little-endian: what stands at which byte. Sums are ordinary, so no offset wraps.
+-- The ELF gABI's layouts, 64-bit and little-endian: what stands at which byte. Sums are ordinary, so no offset wraps.
 use Rattle.std.specs.Prelude.{ℕ, ◌+◌, List}
 use Rattle.words.specs.Number.{le_at}
 use Rattle.elf.specs.declared.FileHeader.{FileHeader}

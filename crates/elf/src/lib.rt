@@ -1,4 +1,4 @@
-// The ELF g_a_b_i's layouts, 64-bit and little-endian, read into structs by value.
+// The ELF gABI's layouts, 64-bit and little-endian, read into structs by value.
 // A `read_` function reads bytes that its caller knows to be there.
 #![tactic(auto)]
 

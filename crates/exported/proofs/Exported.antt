@@ -58,7 +58,7 @@ moved :
     Stands (record { state = s'; text = text'; arena = arena'; undo = undo'; ids = ids'; build_id = build_id }) l
 moved build_id a b c d e k = rw (a, b, c, d, e) k
 
--- the model stays as it is where the top build_id is asked for
+-- the model stays as it is where the top build-id is asked for
 top-id-stays : (l : Model) → (step l model.TopId).model ≡ l
 unfolding step
 top-id-stays l = refl
@@ -262,7 +262,7 @@ run-follows l (then {c = c} turn rest) k sound =
 
 -- ---- the claim
 
--- the bytes of the top build_id stand at its place
+-- the bytes of the top build-id stand at its place
 top-there : {h : Host} {l : Model} → Follows h l → Sound l → top.id_there (top_place_of l) h.build_id h.ids ≡ top_id l
 unfolding top_id
 top-there {h} {l} k sound =

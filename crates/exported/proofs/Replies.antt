@@ -125,7 +125,7 @@ module _ (b : List ℕ) (whole : is_state b ≡ true) where
       by_size true = refl
       by_size false = refl
 
--- ---- the place of the top build_id is the model's
+-- ---- the place of the top build-id is the model's
 
 module _ {u : Loader} {l : Model} (k : Stands u l) where
   place-over : (stack : List ℕ) → l.stack ≡ stack → top.top_place u.state ≡ top_place_over l stack

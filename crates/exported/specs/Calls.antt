@@ -71,7 +71,7 @@ buffers_for b (model.Says v) = b
 buffers_for b (model.Tells v status result) = b
 buffers_for b (model.HandsOut id) = b
 
--- where the top build_id stands: in the hypervisor's build_id, or in the id store at the slot of the payload that was applied last
+-- where the top build-id stands: in the hypervisor's build-id, or in the id store at the slot of the payload that was applied last
 abbrev pub top_place_over : Model → List ℕ → IdPlace
 top_place_over l [] = id_place 0 0 (length l.start.build_id)
 top_place_over l (slot ∷ older) = id_place 1 (id_at slot) (length (payload_in l slot).id)

@@ -21,7 +21,7 @@ pub record Claimed (a : Start) (cs : List Call) (rs : List Reply) (h : Host) : T
   pub answers : rs ≡ replies_for (opened a) cs
   pub records : is_state h.records ≡ true
   pub matches : Matches (loader_of h) (after (opened a) (map plain cs))
-  -- the place of the top build_id that a reply gives is where the model's bytes stand
+  -- the place of the top build-id that a reply gives is where the model's bytes stand
   pub top : id_there (top_place_of (after (opened a) (map plain cs))) h.build_id h.ids ≡ top_id (after (opened a) (map plain cs))
   pub jobs : Jobs (after (opened a) (map plain cs))
 

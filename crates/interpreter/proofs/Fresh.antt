@@ -127,7 +127,7 @@ module _ (n : ℕ) (mode : Mode) (h : Host) (id : List ℕ) where
   unfolding start_line
   line-out = refl
 
--- of another build_id that is the same
+-- of another build-id that is the same
 pub set-up-with :
     {h : Host} {id id' : List ℕ} {r : Called} {arena undo ids arena' undo' ids' : List ℕ} → id ≡ id' →
     SetsUp h id r arena undo ids arena' undo' ids' → SetsUp h id' r arena undo ids arena' undo' ids'

@@ -40,7 +40,7 @@ fn set_up(
     )
 }
 
-// The console on zero text of this size, with this build_id.
+// The console on zero text of this size, with this build-id.
 fn begin(
     console: Console,
     state: State,

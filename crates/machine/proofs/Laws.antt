@@ -6,7 +6,7 @@ use mathlib.Core.List.{List}
 use native.Mathlib.Omega.{arith}
 use borrow.Author.Tests.{leb-true}
 use lib.Dec.{leb}
-use lib.ListN.{length}
+use lib.ListN.{length, length-replicate}
 use Rattle.words.proofs.Addresses.{difference_below}
 use Rattle.words.proofs.Number.{length-le_bytes}
 use Rattle.words.proofs.Tests.{both}
@@ -19,7 +19,6 @@ use Rattle.machine.specs.declared.fields.FieldType.{FieldType}
 use Rattle.machine.specs.declared.fields.FieldType.TheVariants.{Absolute, Relative}
 use Rattle.machine.specs.declared.processor.Processor.{Processor}
 use Rattle.machine.specs.declared.processor.Processor.TheVariants.{X86_64}
-use Rattle.machine.proofs.NoOps.{length-no_ops}
 
 -- ---- fields
 
@@ -46,7 +45,7 @@ pub record Lawful (m : Machine) : Type 0 where
   pub fill_max : (n : ℕ) → m.fill_size n ≡ true → n ≤ edit_max
   pub displaced : (old new : ℕ) → m.displacement old new < 2 ^ 64
 
--- the sizes of a fill on x86_64
+-- the sizes of a fill on x86-64
 x86-fill : (n : ℕ) → is_fill_size n ≡ true → (1 ≤ n) × (n ≤ edit_max)
 unfolding is_fill_size
 x86-fill n h =
@@ -59,7 +58,7 @@ x86-lawful = record {
   jump_length = λ d. rw (length-le_bytes 4 d);
   jump_some = omega arith;
   jump_max = omega arith;
-  fill_length = length-no_ops;
+  fill_length = λ n. length-replicate n 0x90;
   fill_some = λ n h. (x86-fill n h).0;
   fill_max = λ n h. (x86-fill n h).1;
   displaced = λ old new. difference_below _ _;

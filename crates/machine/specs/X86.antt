@@ -1,5 +1,5 @@
--- x86_64, as document 01 has it, with the no-op instructions of document 02, W5.
-use Rattle.std.specs.Prelude.{ℕ, zero, suc, ◌/◌, ◌%◌, Bool, true, cond, ◌&&◌, ◌||◌, List, [], ◌∷◌, ◌++◌, leb, eqb, get_or}
+-- x86-64, as document 01 has it.
+use Rattle.std.specs.Prelude.{ℕ, Bool, true, cond, ◌&&◌, ◌||◌, ◌∷◌, leb, eqb, replicate}
 use Rattle.words.specs.Address.{wrapping_sum, wrapping_difference, signed, fits}
 use Rattle.words.specs.Number.{le_bytes}
 use Rattle.records.specs.Refusal.{reason_for}
@@ -53,33 +53,6 @@ displacement_of old new = wrapping_difference new (wrapping_sum old jump_length)
 unfoldable pub is_fill_size : ℕ → Bool
 is_fill_size n = leb 1 n && leb n edit_max
 
--- W5: "the long forms of the Intel manual instead, lengths 1 to 9", in this order
-unfoldable pub no_op_forms : List (List ℕ)
-no_op_forms =
-    (0x90 ∷ [])
-    ∷ (0x66 ∷ 0x90 ∷ [])
-    ∷ (0x0f ∷ 0x1f ∷ 0x00 ∷ [])
-    ∷ (0x0f ∷ 0x1f ∷ 0x40 ∷ 0x00 ∷ [])
-    ∷ (0x0f ∷ 0x1f ∷ 0x44 ∷ 0x00 ∷ 0x00 ∷ [])
-    ∷ (0x66 ∷ 0x0f ∷ 0x1f ∷ 0x44 ∷ 0x00 ∷ 0x00 ∷ [])
-    ∷ (0x0f ∷ 0x1f ∷ 0x80 ∷ 0x00 ∷ 0x00 ∷ 0x00 ∷ 0x00 ∷ [])
-    ∷ (0x0f ∷ 0x1f ∷ 0x84 ∷ 0x00 ∷ 0x00 ∷ 0x00 ∷ 0x00 ∷ 0x00 ∷ [])
-    ∷ (0x66 ∷ 0x0f ∷ 0x1f ∷ 0x84 ∷ 0x00 ∷ 0x00 ∷ 0x00 ∷ 0x00 ∷ 0x00 ∷ [])
-    ∷ []
-
--- the form of n bytes, and no byte where n is 0
-unfoldable pub no_op : ℕ → List ℕ
-no_op n = get_or ([] ∷ no_op_forms) n []
-
--- "nines": the form of nine bytes, k times
-abbrev pub nines : ℕ → List ℕ
-nines zero = []
-nines (suc k) = no_op 9 ++ nines k
-
--- W5: "Take nines while at least nine bytes remain, then one for the rest."
-unfoldable pub no_ops : ℕ → List ℕ
-no_ops n = nines (n / 9) ++ no_op (n % 9)
-
 abbrev pub x86_64 : Machine
 x86_64 = record {
   -- "e_machine 62"
@@ -94,6 +67,6 @@ x86_64 = record {
   -- "The edit is e9 and new_addr - (old address + 5) in 4 bytes."
   jump_bytes = λ d. 0xe9 ∷ le_bytes 4 d;
   fill_size = is_fill_size;
-  -- "The edit is new_size bytes", by W5 of "the long forms"
-  fill_bytes = no_ops;
+  -- "The edit is new_size bytes 90."
+  fill_bytes = λ n. replicate n 0x90;
 }

@@ -3,7 +3,7 @@ ghost use Rattle.std.specs.Prelude.{◌≡◌, ◌+◌, ◌≤◌, length};
 ghost use Rattle.words.specs.Splice.{splice};
 ghost use Rattle.machine.specs.Machine.{edit_bytes, edit_max};
 ghost use Rattle.machine.specs.Host.{machine_of};
-ghost use Rattle.machine.specs.X86.{type_of, is_fill_size, no_op, no_ops};
+ghost use Rattle.machine.specs.X86.{type_of, is_fill_size};
 
 use super::fields::FieldType;
 use records::payload::{Edit, EditKind};
@@ -24,7 +24,7 @@ pub enum RelocationType {
 // The longest edit.
 pub const EDIT_MAX: u64 = 31;
 
-// The relocation types of x86_64.
+// The relocation types of x86-64.
 fn x86_type(number: u64) -> RelocationType
     ensures { result ≡ type_of number }
 {
@@ -43,7 +43,7 @@ fn x86_type(number: u64) -> RelocationType
     RelocationType::Unknown
 }
 
-// The sizes of a fill on x86_64.
+// The sizes of a fill on x86-64.
 fn x86_fill(size: u64) -> bool
     ensures { result ≡ is_fill_size size }
 {
@@ -127,50 +127,6 @@ impl Processor {
     }
 }
 
-// The no-op instructions of 1 to 9 bytes in order, each with zeros behind it up to nine bytes.
-const NO_OPS: [[u8; 9]; 9] = [
-    [0x90, 0, 0, 0, 0, 0, 0, 0, 0],
-    [0x66, 0x90, 0, 0, 0, 0, 0, 0, 0],
-    [0x0f, 0x1f, 0x00, 0, 0, 0, 0, 0, 0],
-    [0x0f, 0x1f, 0x40, 0x00, 0, 0, 0, 0, 0],
-    [0x0f, 0x1f, 0x44, 0x00, 0x00, 0, 0, 0, 0],
-    [0x66, 0x0f, 0x1f, 0x44, 0x00, 0x00, 0, 0, 0],
-    [0x0f, 0x1f, 0x80, 0x00, 0x00, 0x00, 0x00, 0, 0],
-    [0x0f, 0x1f, 0x84, 0x00, 0x00, 0x00, 0x00, 0x00, 0],
-    [0x66, 0x0f, 0x1f, 0x84, 0x00, 0x00, 0x00, 0x00, 0x00],
-];
-
-// How many bytes of each row are the instruction.
-const NO_OP_LENGTHS: [usize; 9] = [1, 2, 3, 4, 5, 6, 7, 8, 9];
-
-// The no-op instruction of `n` bytes over those of `text` from `at` on.
-fn write_no_op(text: &mut [u8], at: usize, n: usize)
-    requires { (1 ≤ n) × (n ≤ 9) × (at + n ≤ length text.old) }
-    ensures { text.new ≡ splice text.old at (no_op n) }
-{
-    let form = NO_OPS[n - 1];
-    let size = NO_OP_LENGTHS[n - 1];
-    words::bytes::copy(text, at, &form[..size]);
-}
-
-// No-op instructions over the `n` bytes of `text` from `at` on: of nine bytes while nine remain, then one for the rest.
-fn write_no_ops(text: &mut [u8], at: usize, n: usize)
-    requires { at + n ≤ length text.old }
-    ensures { text.new ≡ splice text.old at (no_ops n) }
-{
-    let nines = n / 9;
-    let rest = n % 9;
-    let behind = at + 9 * nines;
-    let mut i = 0;
-    while i < nines {
-        write_no_op(text, at + 9 * i, 9);
-        i += 1;
-    }
-    if 0 < rest {
-        write_no_op(text, behind, rest);
-    }
-}
-
 fn write_x86(text: &mut [u8], at: usize, edit: Edit)
     requires { at + length (edit_bytes (machine_of Processor.X86_64) edit) ≤ length text.old }
     ensures { text.new ≡ splice text.old at (edit_bytes (machine_of Processor.X86_64) edit) }
@@ -181,6 +137,6 @@ fn write_x86(text: &mut [u8], at: usize, edit: Edit)
             words::bytes::fill(text, at, 1, 0xe9);
             words::le::write(text, at + 1, 4, displacement);
         }
-        EditKind::Fill => write_no_ops(text, at, edit.length as usize),
+        EditKind::Fill => words::bytes::fill(text, at, edit.length as usize, 0x90),
     }
 }

@@ -7,7 +7,7 @@ use machine::host::Host;
 use machine::processor::{EDIT_MAX, Processor};
 use records::payload::Payload;
 
-// The processor; text and arena by base address, the text's length, the length of the hypervisor's build_id, the number of CPUs.
+// The processor; text and arena by base address, the text's length, the length of the hypervisor's build-id, the number of CPUs.
 #[derive(Clone, Copy)]
 pub struct Config {
     pub processor: Processor,

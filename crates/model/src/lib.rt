@@ -1,1 +1,2 @@
 // The reference model of the loader: document 01's ledger. It is all definitions: specs/ has it.
+#![tactic(auto)]

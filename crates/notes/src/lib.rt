@@ -1,4 +1,4 @@
-// The two notes: the payload's build_id, and the one that it depends on.
+// The two notes: the payload's build-id, and the one that it depends on.
 #![tactic(auto)]
 
 ghost use Rattle.std.specs.Prelude.{◌≡◌, true, ◌≤◌};

@@ -1,4 +1,4 @@
--- The top build_id. Document 01: "The id the stack stands on is the top payload's, or the hypervisor's when nothing is applied".
+-- The top build-id. Document 01: "The id the stack stands on is the top payload's, or the hypervisor's when nothing is applied".
 use Rattle.std.specs.Prelude.{ℕ, ◌-◌, Bool, cond, ◌&&◌, ◌≡◌, List, [], leb, eqb, length, get_or}
 use Rattle.words.specs.Splice.{part}
 use Rattle.records.specs.Verdict.{must, decide}
@@ -18,7 +18,7 @@ top_slot s = get_or s.stack (s.depth - 1) 0
 unfoldable pub top_id : State → List ℕ → List ℕ → List ℕ
 top_id s build_id ids = cond (eqb s.depth 0) build_id (part ids (id_at (top_slot s)) (payload_in s (top_slot s)).id_length)
 
--- the same part by its place: 0 for the hypervisor's build_id or 1 for the id store, where it begins there, and its length
+-- the same part by its place: 0 for the hypervisor's build-id or 1 for the id store, where it begins there, and its length
 abbrev pub id_place : ℕ → ℕ → ℕ → IdPlace
 id_place buffer offset length = record { buffer = buffer; offset = offset; length = length }
 

@@ -1,4 +1,4 @@
-// The top build_id.
+// The top build-id.
 ghost use Rattle.std.specs.Prelude.{◌≡◌, true, length};
 ghost use Rattle.memory.specs.Memory.{ids_size};
 ghost use Rattle.ranges.specs.Ranges.{in_range};
@@ -9,7 +9,7 @@ use records::payload::Payload;
 use state::find;
 use state::state::State;
 
-// Where an id stands: 0 for the hypervisor's build_id or 1 for the id store, from where on, and how long.
+// Where an id stands: 0 for the hypervisor's build-id or 1 for the id store, from where on, and how long.
 #[derive(Clone, Copy)]
 pub struct IdPlace {
     pub buffer: u32,

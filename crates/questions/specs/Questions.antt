@@ -1,4 +1,4 @@
--- The calls that change nothing but the caller's buffers: get, list and the top build_id, over the records buffer.
+-- The calls that change nothing but the caller's buffers: get, list and the top build-id, over the records buffer.
 use Rattle.std.specs.Prelude.{ℕ, Bool, cond, ◌&&◌, List, ◌++◌, eqb, length}
 use Rattle.words.specs.Number.{le_bytes}
 use Rattle.records.specs.Refusal.{refusal_code}
@@ -63,7 +63,7 @@ unfoldable pub list_asked : List ℕ → ℕ → ℕ → list.Buffers → List �
 list_asked b idx nr lent out =
     cond (right_buffers b (length out) list_size) (list_answer (list.list_of (state_in b) idx nr lent) out) (list_asking (asked invalid out) lent)
 
--- ---- the top build-id: which buffer holds it (0 the build_id, 1 the id store), where in it, and its length, 4 bytes each
+-- ---- the top build-id: which buffer holds it (0 the build-id, 1 the id store), where in it, and its length, 4 bytes each
 
 abbrev pub top_size : ℕ
 top_size = 12

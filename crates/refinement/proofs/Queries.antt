@@ -1,4 +1,4 @@
--- Get, list and the top build_id give the model's replies.
+-- Get, list and the top build-id give the model's replies.
 use Prim.Native.Nat.{ℕ, zero, suc, ◌-◌, ◌≤◌, min}
 use mathlib.Core.Path.{◌≡◌, refl, sym, ap, ap₂, ◌∙◌}
 use mathlib.Core.Bool.{true}
@@ -124,7 +124,7 @@ module _ {u : Loader} {l : Model} (k : Stands u l) (sound : Sound l) where
         lengths-joined,
       )
 
-  -- ---- the top build_id
+  -- ---- the top build-id
 
   pub id-sizes : top.id_sizes_ok u.state (length u.build_id) (length u.ids) ≡ true
   unfolding top.id_sizes_ok

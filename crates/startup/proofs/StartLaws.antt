@@ -38,7 +38,7 @@ module _ (l : Lent) where
   unfolding start_of start_rules
   accepts e = rw e
 
--- a build_id that is too long
+-- a build-id that is too long
 pub long-id : (c : Config) → id_max < c.id_length → config_ok c ≡ false
 long-id c h = by-test (config_ok c) refl
   where

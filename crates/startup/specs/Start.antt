@@ -12,7 +12,7 @@ use Rattle.state.specs.State.{state_with, no_state}
 use Rattle.state.specs.declared.state.Called.{Called}
 use Rattle.state.specs.declared.state.State.{State}
 
--- "Start-up takes these and a CPU count": text and build_id are read, arena and both stores are written
+-- "Start-up takes these and a CPU count": text and build-id are read, arena and both stores are written
 pub record Lent : Type 0 where
   pub text : List ℕ
   pub text_base : ℕ

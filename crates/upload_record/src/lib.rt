@@ -1,2 +1,4 @@
 // The record that an upload enters, and its id in the id store.
+#![tactic(auto)]
+
 pub mod enter;

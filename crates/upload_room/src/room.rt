@@ -2,7 +2,7 @@
 ghost use Rattle.std.specs.Prelude.{◌≡◌};
 ghost use Rattle.records.specs.Verdict.{refusal};
 ghost use Rattle.state.specs.Find.{with_name, free_slot};
-ghost use Rattle.ranges.specs.Ranges.{in_range};
+ghost use Rattle.ranges.specs.Ranges.{in_range as state_in_range};
 ghost use Rattle.upload_room.specs.Room.{upload_sizes_ok, room_rules, request_rules, refused_room, room_by};
 
 use memory::config::Config;
@@ -28,7 +28,7 @@ pub fn refuse(reason: Reason) -> Room
 
 // Whether the lent sizes are right, by whether the state is in range.
 pub fn sizes_ok(in_range: bool, arena: usize, ids: usize) -> bool
-    ensures { (s : State) → in_range ≡ in_range s → result ≡ upload_sizes_ok s arena ids }
+    ensures { (s : State) → in_range ≡ state_in_range s → result ≡ upload_sizes_ok s arena ids }
 {
     if !in_range {
         return false;

@@ -3,7 +3,6 @@
 #[cfg(test)]
 mod alone;
 pub mod damage;
-mod fills;
 pub mod mutations;
 pub mod objects;
 pub mod payloads;

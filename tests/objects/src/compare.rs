@@ -2,7 +2,6 @@
 
 use crate::abi::{in_words, prepare, Place, Prepared, EDIT, EDITS, ID};
 use crate::elf::{get, sections};
-use crate::fills::{by_as, by_objdump};
 use crate::oracle::{by_name, link, placed, Linked, Placed};
 use crate::recipes::Edit;
 use crate::report::{differing, Report};
@@ -39,7 +38,7 @@ pub fn compare(
     let length = placed.iter().map(Placed::end).max().unwrap_or(0);
     compare_summary(&prepared, length, expected, report);
     compare_edits(&prepared, &linked, expected.edits, report);
-    compare_fills(folder, &prepared, expected.edits, report)
+    Ok(())
 }
 
 /// Each placed section with bytes, at its offset in the image.
@@ -104,20 +103,7 @@ fn compare_edits(prepared: &Prepared, linked: &Linked, edits: &[(u64, Edit)], re
     report.compare("entries after the last edit", &differing("edits", EDIT * edits.len(), rest, "zero", &zeros));
 }
 
-/// The bytes of each fill, as the assembler writes them and as objdump reads them.
-fn compare_fills(folder: &Path, prepared: &Prepared, edits: &[(u64, Edit)], report: &mut Report) -> Result<(), String> {
-    for (index, (_, edit)) in edits.iter().enumerate() {
-        if let Edit::Fill(length) = edit {
-            let fill = &prepared.edits[EDIT * index + 12..EDIT * index + 12 + length];
-            report.compare(&format!("edit {index}, {length} bytes by as"), &by_as(folder, fill)?);
-            report.compare(&format!("edit {index}, {length} bytes by objdump"), &by_objdump(folder, fill)?);
-        }
-    }
-    Ok(())
-}
-
-/// An entry's address and length, the bytes of a jump, and the zeros after the edit. The jump is decoded: it lands
-/// where `nm` has the new function in ld's output.
+/// An entry's address, length and bytes. A jump is decoded: it lands where `nm` has the new function in ld's output.
 fn entry_differences(entry: &[u8], address: u64, edit: &Edit, linked: &Linked) -> Result<Vec<String>, String> {
     let mut lines = Vec::new();
     let mut equal = |what: &str, ours: u64, theirs: u64| {
@@ -131,11 +117,16 @@ fn entry_differences(entry: &[u8], address: u64, edit: &Edit, linked: &Linked) -
     };
     equal("address", get(entry, 0, 8)?, address);
     equal("length", get(entry, 8, 4)?, length as u64);
-    if let Edit::Jump(function) = edit {
-        let displacement = get(entry, 13, 4)? as u32 as i32;
-        equal("first byte", get(entry, 12, 1)?, 0xe9);
-        let landing = get(entry, 0, 8)?.wrapping_add(5).wrapping_add(i64::from(displacement) as u64);
-        equal(&format!("landing on {function}"), landing, linked.symbol(function)?);
+    match edit {
+        Edit::Jump(function) => {
+            let displacement = get(entry, 13, 4)? as u32 as i32;
+            equal("first byte", get(entry, 12, 1)?, 0xe9);
+            let landing = get(entry, 0, 8)?.wrapping_add(5).wrapping_add(i64::from(displacement) as u64);
+            equal(&format!("landing on {function}"), landing, linked.symbol(function)?);
+        }
+        Edit::Fill(length) => {
+            lines.extend(differing("fill", 0, &entry[12..12 + length], "no-op", &vec![0x90; *length]))
+        }
     }
     let rest = &entry[12 + length..];
     lines.extend(differing("entry", 12 + length, rest, "zero", &vec![0; rest.len()]));

@@ -6,7 +6,6 @@ mod abi;
 mod bounds;
 mod compare;
 mod elf;
-mod fills;
 mod list;
 mod objects;
 mod oracle;

@@ -12,7 +12,7 @@ use std::collections::{BTreeMap, BTreeSet};
 use std::path::Path;
 
 /// The sources, compiled into this program.
-const SOURCES: [(&str, &str); 18] = [
+const SOURCES: [(&str, &str); 17] = [
     ("livepatch.h", include_str!("../sources/livepatch.h")),
     ("hello.c", include_str!("../sources/hello.c")),
     ("calls.c", include_str!("../sources/calls.c")),
@@ -23,7 +23,6 @@ const SOURCES: [(&str, &str); 18] = [
     ("weak.c", include_str!("../sources/weak.c")),
     ("weak_code.c", include_str!("../sources/weak_code.c")),
     ("fill.S", include_str!("../sources/fill.S")),
-    ("fills.S", include_str!("../sources/fills.S")),
     ("fields.S", include_str!("../sources/fields.S")),
     ("fixed.S", include_str!("../sources/fixed.S")),
     ("depends.S", include_str!("../sources/depends.S")),

@@ -5,7 +5,7 @@
 pub enum Edit {
     /// A jump to a function of the payload.
     Jump(&'static str),
-    /// That many bytes of no-ops.
+    /// That many no-op bytes.
     Fill(usize),
 }
 use Edit::{Fill, Jump};
@@ -49,16 +49,6 @@ const WEAK: &[(u64, Edit)] = &[(DOMCTL, Jump("announced"))];
 const WEAK_CODE: &[(u64, Edit)] = &[(DOMCTL, Jump("announced")), (VERSION, Jump("announced_directly"))];
 const FILLS: &[(u64, Edit)] =
     &[(TEXT, Fill(1)), (PRINTK, Fill(9)), (DOMCTL, Jump("replacement")), (0xffff_82d0_802f_ffe1, Fill(31))];
-/// The fills of fills.S.
-const EVERY_FILL: &[(u64, Edit)] = &{
-    let mut edits = [(TEXT, Fill(1)); 31];
-    let mut at = 0;
-    while at < edits.len() {
-        edits[at] = (TEXT + 0x1000 * at as u64, Fill(at + 1));
-        at += 1;
-    }
-    edits
-};
 const FIELDS: &[(u64, Edit)] = &[(VERSION, Jump("two")), (0xffff_82d0_802f_fffb, Jump("last"))];
 
 /// The functions of many.c.
@@ -147,7 +137,6 @@ pub fn all() -> Vec<Recipe> {
         weak("weak names, their addresses in data", &["weak.c", "depends.S"], &[], WEAK),
         weak("weak names, their addresses in code", &["weak.c", "weak_code.c", "depends.S"], LARGE, WEAK_CODE),
         Recipe { name: "fills", sources: &["fill.S", "depends.S"], edits: FILLS, ..PLAIN },
-        Recipe { name: "fills of every length", sources: &["fills.S", "depends.S"], edits: EVERY_FILL, ..PLAIN },
         strings("strings", &[]),
         strings("strings, not mergeable", NO_COPY),
         Recipe { then: STRIP, ..strings("strings, stripped", &[]) },

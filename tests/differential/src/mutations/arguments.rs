@@ -1,7 +1,6 @@
 //! ARG: the other arguments: lengths of the buffers, text range, slot base.
 
 use super::{nowhere, Expect::Accepted, Expect::Holds, Fact::*, Table};
-use crate::fills::filled;
 use crate::payloads::template::{TEXT_BASE, TEXT_LEN};
 use crate::payloads::{Draft, Record};
 
@@ -92,7 +91,7 @@ fn slots(t: &mut Table) {
             fill_first(d);
         });
     }
-    let facts = vec![Edits(1), Edit(0, 0, filled(1)), Placed(70)];
+    let facts = vec![Edits(1), Edit(0, 0, vec![0x90]), Placed(70)];
     t.prepare("ARG-04", "slot at 2^32, text at 0", Holds(facts), |d| {
         d.slot_base = 0x1_0000_0000;
         d.text_base = 0;

@@ -1,7 +1,6 @@
 //! EDT: edits; PAIR: edits that touch a common byte.
 
 use super::{record, Expect::Accepted, Expect::Holds, Fact::*, Table};
-use crate::fills::filled;
 use crate::payloads::template::TEXT_BASE;
 use crate::payloads::Record;
 
@@ -66,21 +65,15 @@ fn ranges(t: &mut Table) {
 
 fn fills(t: &mut Table) {
     for size in 1..=31u32 {
-        let facts = vec![Edits(1), Edit(0, TEXT_BASE + 9, filled(size))];
+        let facts = vec![Edits(1), Edit(0, TEXT_BASE + 9, vec![0x90; size as usize])];
         t.prepare("EDT-03", format!("fill of {size}"), Holds(facts), move |d| {
             d.set_records(&[Record::new(0, TEXT_BASE + 9, size, 31)]);
         });
     }
-    let old = |size: u32| TEXT_BASE + 40 * u64::from(size);
-    let facts = (1..=31u32).map(|size| Edit(size as usize - 1, old(size), filled(size))).chain([Edits(31)]).collect();
-    t.prepare("EDT-03", "fills of 1 to 31 in one payload", Holds(facts), move |d| {
-        let records: Vec<Record> = (1..=31).map(|size| Record::new(0, old(size), size, 31)).collect();
-        d.set_records(&records);
-    });
     for count in [16, 17, 32] {
         // the first record is the last in the text
         let old = move |n: usize| TEXT_BASE + 31 * (count - 1 - n) as u64;
-        let facts = (0..count).map(|n| Edit(n, old(n), filled(31))).chain([Edits(count)]).collect();
+        let facts = (0..count).map(|n| Edit(n, old(n), vec![0x90; 31])).chain([Edits(count)]).collect();
         t.prepare("EDT-04", format!("{count} edits in order"), Holds(facts), move |d| {
             let records: Vec<Record> = (0..count).map(|n| Record::new(0, old(n), 31, 31)).collect();
             d.set_records(&records);

@@ -1,7 +1,6 @@
 //! The paper's numbers K1 to K9, through a whole payload.
 
 use super::{at, entry, record, Expect::Accepted, Expect::Holds, Fact::*, Table};
-use crate::fills::filled;
 use crate::payloads::template::{note, TEXT_BASE};
 use crate::payloads::{Draft, Record, Ref, Relocation, Section, Symbol};
 
@@ -106,7 +105,7 @@ fn notes(t: &mut Table) {
 }
 
 fn sizes(t: &mut Table) {
-    t.prepare("K8", "fill of 31", Holds(vec![Edit(0, TEXT_BASE, filled(31))]), |d| {
+    t.prepare("K8", "fill of 31", Holds(vec![Edit(0, TEXT_BASE, vec![0x90; 31])]), |d| {
         d.set_records(&[Record::new(0, TEXT_BASE, 31, 40)]);
     });
     t.prepare("K8", "fill of 32", record(22, 0), |d| d.set_records(&[Record::new(0, TEXT_BASE, 32, 40)]));

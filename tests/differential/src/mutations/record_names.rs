@@ -1,7 +1,6 @@
 //! REC-04 to REC-06: records that find their function by name.
 
 use super::{record, Expect, Expect::Accepted, Expect::Holds, Fact::*, Table};
-use crate::fills::filled;
 use crate::payloads::template::TEXT_BASE;
 use crate::payloads::{Draft, Record};
 
@@ -20,7 +19,7 @@ fn name_at(draft: &mut Draft, place: impl Fn(&Draft) -> u64) {
 
 /// Accepted, with the one edit at this address.
 fn found(address: u64) -> Expect {
-    Holds(vec![Edits(1), Edit(0, address, filled(1))])
+    Holds(vec![Edits(1), Edit(0, address, vec![0x90])])
 }
 
 pub fn rows(table: &mut Table) {
@@ -93,7 +92,7 @@ fn addresses(t: &mut Table) {
         d.list.sort();
         name_at(d, |d| d.slot_base);
     });
-    t.prepare("REC-04", "name inside the records", Holds(vec![Edit(1, TEXT_BASE + 6, filled(1))]), |d| {
+    t.prepare("REC-04", "name inside the records", Holds(vec![Edit(1, TEXT_BASE + 6, vec![0x90])]), |d| {
         d.list.push((b"zz".to_vec(), TEXT_BASE + 6));
         d.reserve_records(2);
         let letters = Record { name: 0x7a7a, ..Record::new(0, TEXT_BASE + 0x100, 3, 9) };
@@ -117,7 +116,7 @@ fn lookups(t: &mut Table) {
         d.text_base = 0;
         named(d, b"at_zero\0");
     });
-    let facts = vec![Edit(0, 0xffff_82d0_8015_fbb9, filled(1)), InSection("funcs", 16, vec![0; 8])];
+    let facts = vec![Edit(0, 0xffff_82d0_8015_fbb9, vec![0x90]), InSection("funcs", 16, vec![0; 8])];
     t.prepare("REC-06", "the slot keeps old_addr 0", Holds(facts), |d| named(d, b"printk\0"));
     for name in [&b"at_zero\0"[..], b"outside\0", b"far_away\0"] {
         let what = format!("a listed address outside the text: {}", name.escape_ascii());

@@ -1,7 +1,6 @@
 //! REC: function records.
 
 use super::{entry, record, Expect, Expect::Accepted, Expect::Holds, Fact::*, Table};
-use crate::fills::filled;
 use crate::payloads::template::{TEXT_BASE, TEXT_LEN};
 use crate::payloads::{Draft, Record, Relocation};
 
@@ -43,7 +42,7 @@ pub fn rows(table: &mut Table) {
 fn reading(t: &mut Table) {
     let facts = vec![
         Edits(3),
-        Edit(1, TEXT_BASE + 0x1_0000, filled(7)),
+        Edit(1, TEXT_BASE + 0x1_0000, vec![0x90; 7]),
         InSection("funcs", 64, 0xdead_beef_0000_0000u64.to_le_bytes().to_vec()),
     ];
     t.prepare("REC-01", "the template's three records", Holds(facts), |_| ());
@@ -55,7 +54,7 @@ fn reading(t: &mut Table) {
     t.prepare(
         "REC-02",
         "a relocation makes a jump a fill",
-        Holds(vec![Edits(3), Edit(2, TEXT_BASE + 0x2_0000, filled(5))]),
+        Holds(vec![Edits(3), Edit(2, TEXT_BASE + 0x2_0000, vec![0x90; 5])]),
         |d| {
             d.bytes("funcs")[128 + 24] = 5;
             d.relocations("rela_funcs").push(Relocation { offset: 136, kind: 1, symbol: 0, addend: 0 });
@@ -148,7 +147,7 @@ fn new_code_anywhere(t: &mut Table) {
 fn fill_sizes(t: &mut Table) {
     let mut sized = |id, new_size: u32, old_size: u32, good: bool| {
         let expect = match good {
-            true => Holds(vec![Edits(1), Edit(0, TEXT_BASE + 0x100, filled(new_size))]),
+            true => Holds(vec![Edits(1), Edit(0, TEXT_BASE + 0x100, vec![0x90; new_size as usize])]),
             false => record(22, 0),
         };
         t.prepare(id, format!("fill of {new_size} over {old_size}"), expect, move |d| {

@@ -1,7 +1,6 @@
 //! REL: relocations.
 
 use super::{entry, Expect, Expect::Accepted, Expect::Holds, Fact::*, Table};
-use crate::fills::filled;
 use crate::payloads::template::{ABSOLUTE, HERE_TEXT, PRINTK};
 use crate::payloads::{Draft, Record, Ref, Relocation, Section, Symbol};
 
@@ -245,7 +244,7 @@ fn targets(t: &mut Table) {
     }
     let facts = vec![
         InSection("funcs", 64 + 16, 0xffff_82d0_8018_0000u64.to_le_bytes().to_vec()),
-        Edit(1, 0xffff_82d0_8018_0000, filled(7)),
+        Edit(1, 0xffff_82d0_8018_0000, vec![0x90; 7]),
     ];
     t.prepare("REL-13", "a field in the records", Holds(facts), |d| {
         d.relocations("rela_funcs").push(relocation(64 + 16, 1, ABSOLUTE, 0x6_0000));

@@ -3,7 +3,6 @@
 use super::bytes::{field, inside, name_at};
 use super::image::Image;
 use super::limits::UNDO_RECORD;
-use super::no_ops::no_ops;
 use super::payload::Payload;
 use super::prepare::Surroundings;
 use super::refusal::Refusal;
@@ -56,7 +55,7 @@ fn read_edit(record: &[u8], list: &SymbolList, image: &Image, around: &Surroundi
         return Err(22);
     }
     let bytes = match new_addr {
-        0 => no_ops(new_size as usize),
+        0 => vec![0x90; new_size as usize],
         _ => jump(old, new_addr).ok_or(34u64)?,
     };
     Ok(Edit { address: old, bytes })

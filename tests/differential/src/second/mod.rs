@@ -15,7 +15,6 @@ pub mod image;
 pub mod kinds;
 pub mod limits;
 pub mod lookup;
-mod no_ops;
 pub mod notes;
 pub mod payload;
 pub mod prepare;

@@ -1,7 +1,6 @@
 //! Payloads for written-down sequences: few sections, no symbols, and edits that are known beforehand.
 
 use super::world::World;
-use crate::fills::filled;
 use crate::payloads::assemble::assemble;
 use crate::payloads::draft::{Draft, Record};
 use crate::payloads::template::{note, template};
@@ -10,7 +9,7 @@ use crate::second::limits::RECORDS;
 /// What a function record asks for, at an offset of the text.
 #[derive(Clone, Copy, Debug)]
 pub enum Edit {
-    /// So many bytes of no-ops.
+    /// So many no-ops.
     NoOps(u64, u32),
     Jump(u64),
 }
@@ -52,7 +51,7 @@ impl Plain {
     pub fn writes(&self, world: &World) -> Vec<(usize, Vec<u8>)> {
         let draft = self.draft(world);
         let write = |(at, edit): (usize, &Edit)| match *edit {
-            Edit::NoOps(offset, length) => (offset as usize, filled(length)),
+            Edit::NoOps(offset, length) => (offset as usize, vec![0x90; length as usize]),
             Edit::Jump(offset) => {
                 let distance = new_code(&draft, at).wrapping_sub(draft.text_base + offset + 5) as u32;
                 (offset as usize, [&[0xe9], &distance.to_le_bytes()[..]].concat())

@@ -1,4 +1,4 @@
--- `starting::begin` meets its contract: zeros over the front of the text, and the build_id kept.
+-- `starting::begin` meets its contract: zeros over the front of the text, and the build-id kept.
 use Rattle.std.proofs.Common.{refl, arith}
 use lib.ListN.{length-replicate}
 use Rattle.interpreter.proofs.Front.{front-written}

@@ -15,7 +15,7 @@ returns-in-Refuse c = let a = c.args in
     stands-starts a.console a.state a.host _ (memory a.text.now a.arena.now a.undo.now a.ids.now a.id.now)
     c.set_up-called.result _ _ _ x c.requires.within.0 _ c.in-Refuse.is _ _ _ c.verdict-written.ensures
 
--- the build_id of the line has room
+-- the build-id of the line has room
 pub begin-requires : goal.begin-requires
 begin-requires c = let keep = c.keep_hex-n in
     let size = length-take-le keep.result keep.new.out keep.ensures.room in (

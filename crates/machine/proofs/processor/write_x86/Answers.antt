@@ -23,8 +23,8 @@ fill-requires c = omega (arith, room (goal.at.fill-requires c).In-Jump)
 pub write-requires : goal.write-requires
 write-requires c = omega (arith, room (goal.at.write-requires c).In-Jump)
 
-pub write_no_ops-requires : goal.write_no_ops-requires
-write_no_ops-requires c = omega (arith, (length-edit (lawful X86_64) c.args.edit).1 c.in-Fill.is)
+pub fill-requires-in-Fill : goal.fill-requires-in-Fill
+fill-requires-in-Fill c = omega (arith, (length-edit (lawful X86_64) c.args.edit).1 c.in-Fill.is)
 
 pub returns-in-Jump : goal.returns-in-Jump
 unfolding edit_bytes
@@ -34,4 +34,4 @@ returns-in-Jump c = let a = c.args in
 
 pub returns-in-Fill : goal.returns-in-Fill
 unfolding edit_bytes
-returns-in-Fill c = rw c.in-Fill.is c.write_no_ops.ensures
+returns-in-Fill c = rw c.in-Fill.is c.fill-in-Fill.ensures

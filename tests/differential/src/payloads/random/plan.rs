@@ -1,7 +1,6 @@
 //! What a payload is to do: its records, and the symbol list that names their functions.
 
 use super::surroundings::{edge, surroundings};
-use crate::fills::filled;
 use crate::payloads::draft::Draft;
 use crate::rng::Rng;
 use crate::second::limits::RECORDS;
@@ -33,7 +32,7 @@ impl Planned {
     /// The bytes that the record asks to be written.
     pub fn edit(&self, draft: &Draft) -> Vec<u8> {
         match self.fill {
-            Some(size) => filled(size),
+            Some(size) => vec![0x90; size as usize],
             None => {
                 let (offset, _) = self.new_code(draft.placement().1);
                 let to = draft.slot_base.wrapping_add(offset);

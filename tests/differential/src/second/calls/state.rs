@@ -2,7 +2,6 @@
 
 use super::host::Host;
 use crate::second::limits::{CPUS, ID, NAME, RECORDS, SLOTS};
-use crate::second::no_ops::no_ops;
 
 /// The status of a payload.
 pub const CHECKED: u32 = 1;
@@ -27,7 +26,7 @@ impl KeptEdit {
     pub fn bytes(&self) -> Vec<u8> {
         match self.jump {
             Some(displacement) => [&[0xe9], &displacement.to_le_bytes()[..4]].concat(),
-            None => no_ops(self.length as usize),
+            None => vec![0x90; self.length as usize],
         }
     }
 }
@@ -165,6 +164,6 @@ mod tests {
     fn edits_as_bytes() {
         let edit = |length, jump| KeptEdit { offset: 7, length, jump }.bytes();
         assert_eq!(edit(5, Some(0u64.wrapping_sub(2))), [0xe9, 0xfe, 0xff, 0xff, 0xff]);
-        assert_eq!(edit(3, None), [0x0f, 0x1f, 0]);
+        assert_eq!(edit(3, None), [0x90; 3]);
     }
 }

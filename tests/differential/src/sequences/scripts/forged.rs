@@ -84,7 +84,7 @@ const REFUSED: [Change; 62] = [
     (C + 132, 4, 8), (C + 132, 4, u64::MAX), (A + 136, 4, 0), (B + 136, 4, 3), (C + 136, 4, 258), (A + 144, 4, 0),
     (B + 144, 4, 65), (C + 148, 4, 0), (C + 148, 4, 65), (A + EDIT_COUNT, 4, 0), (A + EDIT_COUNT, 4, 3),
     (A + EDIT_COUNT, 4, 33),
-    // edits: a jump of 5 bytes, then 31 bytes of no-ops
+    // edits: a jump of 5 bytes, then 31 no-ops
     (A + EDITS + 4, 4, 4), (A + EDITS + 4, 4, 6), (A + EDITS, 4, 4_092), (A + EDITS, 4, 0xffff_ffff),
     (A + EDITS + 24, 4, 0), (A + EDITS + 24, 4, 32), (A + EDITS + 20, 4, 4_066), (C + EDITS + 4, 4, 2),
     // bytes that are no state, also behind the counts

@@ -1,7 +1,6 @@
 //! Sequences that are written down, with the answers that document 01 gives them: numbers, statuses and results, the list's
 //! bytes, the text. They are not computed by a loader.
 
-mod fills;
 mod forged;
 mod jobs;
 mod lists;
@@ -30,15 +29,7 @@ impl Script {
 
 /// All scripts.
 pub fn all() -> Vec<Script> {
-    let parts = [
-        stacks::SCRIPTS,
-        jobs::SCRIPTS,
-        fills::SCRIPTS,
-        loads::SCRIPTS,
-        lists::SCRIPTS,
-        sizes::SCRIPTS,
-        forged::SCRIPTS,
-    ];
+    let parts = [stacks::SCRIPTS, jobs::SCRIPTS, loads::SCRIPTS, lists::SCRIPTS, sizes::SCRIPTS, forged::SCRIPTS];
     parts.concat().into_iter().map(|(name, play)| Script { name, play }).collect()
 }
 
@@ -70,11 +61,6 @@ mod tests {
     #[test]
     fn jobs_and_time_outs() {
         played(jobs::SCRIPTS);
-    }
-
-    #[test]
-    fn every_fill() {
-        played(fills::SCRIPTS);
     }
 
     #[test]
