@@ -33,15 +33,15 @@ use Rattle.refinement.specs.Stands.{Stands}
 use Rattle.refinement.proofs.Queries.{id-sizes, top-over}
 use Rattle.sequence.specs.Run as sequence
 use Rattle.sequence.proofs.Sequence.{turn-agrees, matches}
-use Rattle.exported.specs.Calls.{Call, Upload, Work, TopId, Reply, Returns, Fills, FillsList, plain, number_for, out_for, buffers_for, top_place_of, reply_for, replies_for}
+use Rattle.exported.specs.Calls.{Call, Reply, Returns, Fills, FillsList, plain, number_for, out_for, buffers_for, top_place_of, reply_for, replies_for}
 use Rattle.exported.specs.Claim.{loader_of, EveryExportedSequence}
-use Rattle.exported.specs.Run.{Host, Bytes, Started, by_start, Turn, by_upload, by_get, by_list, by_act, by_report, by_tick, by_work, by_top_id, Run, end, then}
+use Rattle.exported.specs.Run.{Host, MutBytes, Started, by_start, Turn, by_upload, by_get, by_list, by_act, by_report, by_tick, by_work, by_top_id, Run, end, then}
 use Rattle.exported.proofs.Begun.{begins}
 use Rattle.exported.proofs.Replies.{told-apart, plain_buffers, get-fills, list-fills, top-fills, place-agrees}
 
--- a slice that holds these bytes
-abbrev lent : List ℕ → Bytes
-lent l = record { ref_ptr = (0, 0); now = l }
+-- a slice that holds these bytes, and may be written
+abbrev lent : List ℕ → MutBytes
+lent l = record { ref_ptr = (0, 0); ghost_name = 0; now = l }
 
 -- what a call leaves: the records are a state's, and stand for the model after it
 pub record Follows (h : Host) (l : Model) : Type 0 where
