@@ -2,15 +2,15 @@
 // with crates/vectors/stdout.
 #![tactic(auto)]
 
-mod kinds;
 mod lists;
 mod payloads;
 mod print;
+mod refusals;
 
 use std::io;
 
 fn main(rt: HostRuntime) -> io::Result<()> {
-    kinds::all(&rt)?;
+    refusals::all(&rt)?;
     lists::all(&rt)?;
     payloads::all(&rt)
 }
