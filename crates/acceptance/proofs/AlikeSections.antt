@@ -1,4 +1,5 @@
 -- Two files that are alike: their headers, their name tables and their sections are the same.
+use Rattle.std.proofs.Common.{Ok}
 use Prim.Native.Nat.{ℕ, ◌+◌, ◌-◌, ◌*◌, ◌≤◌, ◌<◌}
 use mathlib.Core.Path.{◌≡◌, refl, sym, ap, ◌∙◌}
 use mathlib.Core.Bool.{Bool, true, false, ◌||◌, or-true, and-false}
@@ -10,7 +11,6 @@ use lib.Dec.{ltb}
 use Rattle.words.specs.Number.{le_at}
 use Rattle.words.specs.Scan.{filled}
 use Rattle.records.specs.Limits.{sections_max}
-use Rattle.records.specs.declared.refusal.Verdict.TheVariants.{Pass}
 use Rattle.elf.specs.Layout.{section_header_size, file_header_of, section_header_of}
 use Rattle.elf.specs.Name.{Name, named, unnamed, name_in}
 use Rattle.elf.specs.declared.FileHeader.{FileHeader}
@@ -210,7 +210,7 @@ module _ (a b : List ℕ) (alike : Alike a b) where
 
   -- ---- the sections
 
-  module _ (names : name_table_rules a ≡ Pass) where
+  module _ (names : name_table_rules a ≡ Ok tt) where
     name_table-alike : name_table a ≡ name_table b
     unfolding name_table contents_of
     name_table-alike =

@@ -1,5 +1,7 @@
 -- Two files with the same sections, of which those that are read have the same contents: their notes, the slot's bytes and their
 -- relocations are the same.
+use Rattle.records.specs.Refusal.{Verdict}
+use Rattle.std.proofs.Common.{Ok, Err}
 use Prim.Native.Nat.{ℕ, zero, suc, ◌+◌, ◌≤◌, ◌<◌}
 use mathlib.Core.Path.{◌≡◌, refl, sym, ap, ◌∙◌}
 use mathlib.Core.Bool.{true}
@@ -7,8 +9,6 @@ use mathlib.Core.List.{List}
 use native.Mathlib.Omega.{arith}
 use Rattle.words.specs.Splice.{splice}
 use Rattle.records.specs.Verdict.{◌then◌}
-use Rattle.records.specs.declared.refusal.Verdict.{Verdict}
-use Rattle.records.specs.declared.refusal.Verdict.TheVariants.{Pass, Refuse}
 use Rattle.machine.specs.Machine.{Machine}
 use Rattle.kinds.specs.Kinds.{is_note_kind}
 use Rattle.object.specs.Sections.{section_in, contents_of}
@@ -30,8 +30,8 @@ SameContents a b ss n =
 -- what goes on alike from all bytes ends alike
 go-on-alike :
     (v : Verdict) (image : List ℕ) (f g : List ℕ → Relocated) → ((other : List ℕ) → f other ≡ g other) → go_on v image f ≡ go_on v image g
-go-on-alike Pass image f g same = same image
-go-on-alike (Refuse r) image f g same = refl
+go-on-alike (Ok _) image f g same = same image
+go-on-alike (Err r) image f g same = refl
 
 module _ (a b : List ℕ) (ss : List SectionEntry) (n : ℕ) (same : SameContents a b ss n) where
   -- ---- notes
@@ -43,7 +43,7 @@ module _ (a b : List ℕ) (ss : List SectionEntry) (n : ℕ) (same : SameContent
 
   pub notes-alike : note_rules a ss n ≡ note_rules b ss n
   unfolding note_rules
-  notes-alike = scan-alike (one_note a ss) (one_note b ss) Pass 0 n λ i low high. one_note-alike i (omega arith)
+  notes-alike = scan-alike (one_note a ss) (one_note b ss) (Ok tt) 0 n λ i low high. one_note-alike i (omega arith)
 
   -- ---- the slot's bytes
 

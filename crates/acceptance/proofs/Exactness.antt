@@ -1,4 +1,5 @@
 -- A payload is accepted exactly when it keeps every rule, and a refusal names a rule that is broken.
+use Rattle.std.proofs.Common.{Ok, Err, Result, ℕ}
 use Prim.Native.Nat.{ℕ, ◌≤◌}
 use mathlib.Core.Path.{◌≡◌, refl, sym, ◌∙◌}
 use mathlib.Core.Bool.{Bool, true, false, true≢false}
@@ -6,16 +7,9 @@ use mathlib.Core.List.{List}
 use native.Mathlib.Omega.{arith}
 use borrow.Author.Tests.{eqb-false, leb-false}
 use lib.Dec.{leb}
-use Rattle.records.specs.Refusal.{number_of}
+use Rattle.records.specs.Refusal.{number_of, Verdict}
 use Rattle.records.specs.declared.refusal.Reason.{Reason}
 use Rattle.records.specs.declared.refusal.Place.{Place}
-use Rattle.records.specs.declared.refusal.Verdict.{Verdict}
-use Rattle.records.specs.declared.refusal.Verdict.TheVariants.{Pass, Refuse}
-use Rattle.machine.specs.declared.fields.Checked.{Checked}
-use Rattle.machine.specs.declared.fields.Checked.TheVariants.{Right, Wrong}
-use Rattle.linking.specs.declared.values.SymbolValue.{SymbolValue}
-use Rattle.linking.specs.declared.values.SymbolValue.TheVariants.{Value, Refused}
-use Rattle.functions.specs.declared.function.OldAddress as old
 use Rattle.acceptance.specs.Broken.{Broken, Exact}
 use Rattle.acceptance.specs.Keeps.{Keeps}
 use Rattle.acceptance.specs.Stages.{Setting, payload_rules, build_rules}
@@ -32,15 +26,9 @@ never holds fails = true≢false (sym holds ∙ fails)
 no_more : {a b : ℕ} → a ≤ b → leb a b ≡ false → ⊥
 no_more {a} {b} holds fails = omega (arith, leb-false a b fails)
 
--- no symbol both has a value and is refused, no old address, and no value of a field is both right and wrong
-no_value : {v : SymbolValue} {s : ℕ} {reason : Reason} → v ≡ Value s → v ≡ Refused reason → ⊥
+-- nothing both has a value and is refused: no symbol, no old address, no value of a field
+no_value : {A : Type 0} {v : Result A Reason} {x : A} {reason : Reason} → v ≡ Ok x → v ≡ Err reason → ⊥
 no_value h g = let z : ◌≡◌ {A = ℕ} 0 1 = cc in absurd (omega arith)
-
-no_address : {a : old.OldAddress} {x : ℕ} {reason : Reason} → a ≡ old.TheVariants.At x → a ≡ old.TheVariants.Refused reason → ⊥
-no_address h g = let z : ◌≡◌ {A = ℕ} 0 1 = cc in absurd (omega arith)
-
-no-fault : {c : Checked} {reason : Reason} → c ≡ Right → c ≡ Wrong reason → ⊥
-no-fault h g = let z : ◌≡◌ {A = ℕ} 0 1 = cc in absurd (omega arith)
 
 module _ (t : Setting) (file : List ℕ) where
   -- no rule is both broken and kept
@@ -69,8 +57,8 @@ module _ (t : Setting) (file : List ℕ) where
   not-both _ _ (Broken.relocation_fields i e f m stores h) k = no_more (k.relocations.relocation_fields i e f m stores) h
   not-both _ _ (Broken.relocation_places i e f m stores h) k = never (k.relocations.relocation_places i e f m stores) h
   not-both _ _ (Broken.relocation_symbols i e f reason m stores h) k = no_value (k.relocations.relocation_symbols i e f m stores).1 h
-  not-both _ _ (Broken.relocation_ranges i e s f reason m stores value h) k = no-fault (k.relocations.relocation_ranges i e s f m stores value) h
-  not-both _ _ (Broken.function_names r reason below h) k = no_address (k.functions.function_names r below).1 h
+  not-both _ _ (Broken.relocation_ranges i e s f reason m stores value h) k = no_value (k.relocations.relocation_ranges i e s f m stores value) h
+  not-both _ _ (Broken.function_names r reason below h) k = no_value (k.functions.function_names r below).1 h
   not-both _ _ (Broken.function_forms r below h) k = never (k.functions.function_forms r below) h
   not-both _ _ (Broken.function_texts r address below same h) k = never (k.functions.function_texts r address below same) h
   not-both _ _ (Broken.function_places r address below same h) k = never (k.functions.function_places r address below same) h
@@ -91,6 +79,6 @@ module _ (t : Setting) (file : List ℕ) where
   pub exact : Exact t file (payload_rules t file)
   exact = record { accepted = all_told.kept; kept = λ k. by-verdict k (payload_rules t file) refl; refused = all_told.broken }
     where
-      by-verdict : Keeps t file → (v : Verdict) → payload_rules t file ≡ v → payload_rules t file ≡ Pass
-      by-verdict k Pass e = e
-      by-verdict k (Refuse r) e = absurd (not-both (number_of r.reason) r.place (all_told.broken r e) k)
+      by-verdict : Keeps t file → (v : Verdict) → payload_rules t file ≡ v → payload_rules t file ≡ Ok tt
+      by-verdict k (Ok _) e = e
+      by-verdict k (Err r) e = absurd (not-both (number_of r.reason) r.place (all_told.broken r e) k)

@@ -1,4 +1,7 @@
 -- The rules of function records: where all pass, each is kept and no two edits touch, and where one refuses, that one is broken.
+use Rattle.records.specs.declared.payload.Edit.{Edit}
+use Rattle.records.specs.declared.refusal.Reason.{Reason}
+use Rattle.std.proofs.Common.{Ok, Err, Result, ℕ}
 use Prim.Native.Nat.{ℕ, ◌<◌}
 use mathlib.Core.Path.{◌≡◌, refl, sym, ◌∙◌}
 use mathlib.Core.Bool.{Bool, true, false, cond, ◌&&◌, false≢true, true≢false}
@@ -9,11 +12,7 @@ use Rattle.records.specs.Refusal.{reason_for}
 use Rattle.functions.specs.Edits.{form_ok, jump_ok, fill_ok, in_text, addresses_ok, fill_edit, jump_edit, edit_from, edit_by, edit_of}
 use Rattle.functions.specs.Functions.{edit_at, edit_verdict, function_rules}
 use Rattle.functions.specs.Patching.{Patching}
-use Rattle.functions.specs.declared.edits.RecordEdit.{RecordEdit}
-use Rattle.functions.specs.declared.edits.RecordEdit.TheVariants.{Fault}
 use Rattle.functions.specs.declared.function.FunctionRecord.{FunctionRecord}
-use Rattle.functions.specs.declared.function.OldAddress.{OldAddress}
-use Rattle.functions.specs.declared.function.OldAddress.TheVariants.{At, Refused}
 use Rattle.acceptance.specs.Broken.Broken.{
   function_names,
   function_forms,
@@ -30,7 +29,7 @@ use Rattle.acceptance.proofs.PairRules.{pairs-told}
 use Rattle.acceptance.proofs.Told.{by-test, Tells, passes, refuses, told-as, ◌told-then◌, told-scan}
 
 -- a record has one old address
-same_address : {o : OldAddress} {a b : ℕ} → o ≡ At a → o ≡ At b → a ≡ b
+same_address : {o : Result ℕ Reason} {a b : ℕ} → o ≡ Ok a → o ≡ Ok b → a ≡ b
 same_address h g = cc
 
 module _ (t : Setting) (file : List ℕ) where
@@ -60,27 +59,27 @@ module _ (t : Setting) (file : List ℕ) where
     -- the rules of record r
     record Kept : Type 0 where
       old : ℕ
-      named : old_address_at t file r ≡ At old
+      named : old_address_at t file r ≡ Ok old
       formed : form ≡ true
       in-text : in_text p old f ≡ true
       addressed : addresses_ok p old f ≡ true
       kind : Kind old
 
     -- what the edit, or the fault, tells of record r
-    abbrev Told : Type 0 → RecordEdit → Type 0
+    abbrev Told : Type 0 → Result Edit Reason → Type 0
     Told K e = Tells t file K (edit_verdict e r)
 
     module _ (below : r < record_count file) where
-      module _ (old : ℕ) (named : old_address_at t file r ≡ At old) where
+      module _ (old : ℕ) (named : old_address_at t file r ≡ Ok old) where
         -- by the rules of a fill, and by those of a jump
-        by-fill : eqb f.new_addr 0 ≡ true → Told (Kind old) (cond (fill_ok p f) (fill_edit p old f) (Fault (reason_for 22)))
+        by-fill : eqb f.new_addr 0 ≡ true → Told (Kind old) (cond (fill_ok p f) (fill_edit p old f) (Err (reason_for 22)))
         by-fill none =
             let no_jump : eqb f.new_addr 0 ≡ false → ⊥ = λ h. true≢false (sym none ∙ h) in
             by-test (Told (Kind old)) (fill_ok p f) _ _
             (λ right. passes record { filling = λ h. right; jumping = λ h. absurd (no_jump h); reaching = λ h. absurd (no_jump h) })
             (λ wrong. refuses (function_fills r below none wrong))
 
-        by_jump : eqb f.new_addr 0 ≡ false → Told (Kind old) (cond (jump_ok p f) (jump_edit p old f) (Fault (reason_for 22)))
+        by_jump : eqb f.new_addr 0 ≡ false → Told (Kind old) (cond (jump_ok p f) (jump_edit p old f) (Err (reason_for 22)))
         unfolding jump_edit
         by_jump new =
             by-test (Told (Kind old)) (jump_ok p f) _ _
@@ -114,9 +113,9 @@ module _ (t : Setting) (file : List ℕ) where
             (λ h. refuses (function_places r old below named h)))
 
       -- by its old address
-      by_address : (o : OldAddress) → old_address_at t file r ≡ o → Told Kept (edit_by p (start_at file r) f o)
-      by_address (At old) same = by_form old same
-      by_address (Refused reason) same = refuses (function_names r reason below same)
+      by_address : (o : Result ℕ Reason) → old_address_at t file r ≡ o → Told Kept (edit_by p (start_at file r) f o)
+      by_address (Ok old) same = by_form old same
+      by_address (Err reason) same = refuses (function_names r reason below same)
 
       -- what the verdict on it tells
       told : Told Kept (edit_at p (records_start file) r)

@@ -1,4 +1,5 @@
 -- The table of known answers holds.
+use Rattle.std.proofs.Common.{Ok, Err}
 use Prim.Native.Nat.{ℕ, ◌+◌, ◌≤◌, ◌<◌}
 use mathlib.Core.Path.{◌≡◌, refl}
 use mathlib.Core.Bool.{Bool, true, false, cond, ◌&&◌, and-false}
@@ -26,13 +27,11 @@ use Rattle.notes.proofs.NoteLaws.{note-ok-length}
 use Rattle.placement.specs.Placement.{is_placed, next_multiple, end_before, offset_of}
 use Rattle.linking.specs.Linking.{Linking}
 use Rattle.linking.specs.Symbols.{symbol_value}
-use Rattle.linking.specs.declared.values.SymbolValue.TheVariants.{Value}
 use Rattle.relocation.specs.Relocating.{field_address, stored_field, field_ok, field_of}
 use Rattle.relocation.specs.declared.fields.Area.{Area}
 use Rattle.functions.specs.Edits.{form_ok, in_text, addresses_ok, fill_ok, jump_ok, fill_edit, jump_edit, edit_from}
 use Rattle.functions.specs.Functions.{edit_verdict}
 use Rattle.functions.specs.Patching.{Patching}
-use Rattle.functions.specs.declared.edits.RecordEdit.TheVariants.{Fault}
 use Rattle.functions.specs.declared.function.FunctionRecord.{FunctionRecord}
 use Rattle.acceptance.specs.Known.{Relative, Plain, Jumps, bytes_for, KnownAnswers}
 
@@ -58,7 +57,7 @@ module _ (p : Patching) (at old : ℕ) (f : FunctionRecord) where
     abbrev others : Bool
     others = form_ok p.placed at f && in_text p old f && addresses_ok p old f
 
-    either_way : (t : Bool) → edit_verdict (cond t (Fault (reason_for 22)) (Fault (reason_for 22))) r ≡ must false 22 (Record r)
+    either_way : (t : Bool) → edit_verdict (cond t (Err (reason_for 22)) (Err (reason_for 22))) r ≡ must false 22 (Record r)
     either_way true = refl
     either_way false = refl
 
@@ -105,7 +104,7 @@ module _ (l : Linking) (area : Area) (r : elf.Relocation) where
 
   -- the result by S, A and P
   relative-by :
-      (s a p : ℕ) → r.r_type ≡ 2 → r.r_offset + 4 ≤ area.size → symbol_value l r.r_symbol ≡ Value s → r.r_addend ≡ a →
+      (s a p : ℕ) → r.r_type ≡ 2 → r.r_offset + 4 ≤ area.size → symbol_value l r.r_symbol ≡ Ok s → r.r_addend ≡ a →
       field_address l area r ≡ p → Relative l area r (wrapping_difference (wrapping_sum s a) p)
   relative-by s a p typed inside resolved addend address =
       record { typed = typed; inside = inside; symbol = s; resolved = resolved; result = rw (addend, address) }

@@ -1,4 +1,5 @@
 -- The rule of pairs: where it passes, no two edits touch, and where it refuses, a record touches an earlier one, and no two before it touch.
+use Rattle.std.proofs.Common.{Ok, Err}
 use Prim.Native.Nat.{ℕ, zero, suc, ◌<◌}
 use mathlib.Core.Path.{◌≡◌, refl, sym, ◌∙◌}
 use mathlib.Core.Bool.{Bool, true, false, cond, ◌||◌, false≢true, true≢false}
@@ -7,11 +8,10 @@ use mathlib.Core.List.{List}
 use native.Mathlib.Omega.{arith}
 use Rattle.words.specs.Scan.{scan}
 use Rattle.words.proofs.Scan.{searched}
-use Rattle.records.specs.Refusal.{reason_for}
+use Rattle.records.specs.Refusal.{reason_for, Verdict}
 use Rattle.records.specs.Verdict.{refusal}
 use Rattle.records.specs.declared.payload.Edit.{Edit}
 use Rattle.records.specs.declared.refusal.Place.TheVariants.{Record}
-use Rattle.records.specs.declared.refusal.Verdict.TheVariants.{Pass, Refuse}
 use Rattle.functions.specs.Functions.{edits_of}
 use Rattle.functions.specs.Pairs.{edit_in, touch, touched, pair_rules}
 use Rattle.acceptance.specs.Broken.Broken.{pairs}
@@ -57,6 +57,13 @@ module _ (t : Setting) (file : List ℕ) where
   apart : (j : ℕ) → touches-earlier j ≡ false → (i : ℕ) → i < j → touch (edit_for t file i) (edit_for t file j) ≡ false
   apart j none = none_found edits (edit_in edits j) j none
 
+  -- what the search answers where record j does, and where none does
+  abbrev touched-at : ℕ → Verdict
+  touched-at j = Err (refusal (reason_for 22) (Record j))
+
+  abbrev none-touches : Verdict
+  none-touches = Ok tt
+
   pub pairs-told :
       Tells t file
       ((i j : ℕ) → i < j → j < record_count file → touch (edit_for t file i) (edit_for t file j) ≡ false)
@@ -72,4 +79,4 @@ module _ (t : Setting) (file : List ℕ) where
       (refuses
       (pairs pair.0 later pair.1 below (λ a b earlier before. apart b (hit.1.before b (omega arith) before) a earlier) pair.2)))
       (λ miss. rw miss.1 (passes λ i j earlier below. apart j (miss.0 j (omega arith) (omega arith)) i earlier))
-      (searched touches-earlier (λ j. Refuse (refusal (reason_for 22) (Record j))) Pass 0 (record_count file))
+      (searched touches-earlier touched-at none-touches 0 (record_count file))

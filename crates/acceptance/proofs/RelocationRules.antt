@@ -1,4 +1,6 @@
 -- The rules of relocations: where all pass, each is kept, and where one refuses, that one is broken.
+use Rattle.records.specs.declared.refusal.Reason.{Reason}
+use Rattle.std.proofs.Common.{Ok, Err, Result, ℕ}
 use Prim.Native.Nat.{ℕ, ◌+◌, ◌<◌}
 use mathlib.Core.Path.{◌≡◌, refl, subst}
 use mathlib.Core.Bool.{Bool, true, ◌&&◌}
@@ -8,8 +10,6 @@ use lib.Dec.{leb}
 use Rattle.words.proofs.Tests.{both, either-fails}
 use Rattle.elf.specs.declared.Relocation.{Relocation}
 use Rattle.machine.specs.Host.{rule_of}
-use Rattle.machine.specs.declared.fields.Checked.{Checked}
-use Rattle.machine.specs.declared.fields.Checked.TheVariants.{Right, Wrong}
 use Rattle.machine.specs.declared.fields.FieldType.{FieldType}
 use Rattle.machine.specs.declared.processor.RelocationType.{RelocationType}
 use Rattle.machine.specs.declared.processor.RelocationType.TheVariants.{Nothing, Stores, Unknown}
@@ -18,11 +18,8 @@ use Rattle.kinds.specs.declared.Kind.TheVariants.{Relocations}
 use Rattle.object.specs.Sections.{section_count, sections}
 use Rattle.object.specs.declared.sections.SectionEntry.{SectionEntry}
 use Rattle.linking.specs.Linking.{Linking}
-use Rattle.linking.specs.declared.values.SymbolValue.{SymbolValue}
-use Rattle.linking.specs.declared.values.SymbolValue.TheVariants.{Value, Refused}
 use Rattle.reader.specs.Entries.{relocation_count}
-use Rattle.relocation.specs.Relocating.{checked_field, with_symbol, field_ok, in_field, by_type, field_of, field_verdict, is_relocating}
-use Rattle.relocation.specs.declared.fields.Field.{Field}
+use Rattle.relocation.specs.Relocating.{Field, checked_field, with_symbol, field_ok, in_field, by_type, field_of, field_verdict, is_relocating}
 use Rattle.acceptance.specs.Broken.Broken.{
   relocation_types,
   relocation_fields,
@@ -42,7 +39,7 @@ unfolding is_relocating
 relocating-kind ss s e = (both _ _ e).0
 
 -- a symbol has one value
-same-value : {v : SymbolValue} {a b : ℕ} → v ≡ Value a → v ≡ Value b → a ≡ b
+same-value : {v : Result ℕ Reason} {a b : ℕ} → v ≡ Ok a → v ≡ Ok b → a ≡ b
 same-value h g = cc
 
 module _ (t : Setting) (file : List ℕ) where
@@ -70,8 +67,8 @@ module _ (t : Setting) (file : List ℕ) where
       in-section : inside f ≡ true
       in_place : aligned f ≡ true
       symbol : ℕ
-      valued : symbol_at t file i e ≡ Value symbol
-      ranged : (rule_of f).fault (result_at t file i e f symbol) ≡ Right
+      valued : symbol_at t file i e ≡ Ok symbol
+      ranged : (rule_of f).fault (result_at t file i e f symbol) ≡ Ok tt
 
     -- the rules of one of any type
     abbrev Kept : RelocationType → Type 0
@@ -88,16 +85,16 @@ module _ (t : Setting) (file : List ℕ) where
         module _ (in-section : inside f ≡ true) (in_place : aligned f ≡ true) where
           -- by what is wrong with its value, if anything is
           by_value :
-              (s at : ℕ) → symbol_at t file i e ≡ Value s → (c : Checked) → (rule_of f).fault (result_at t file i e f s) ≡ c →
+              (s at : ℕ) → symbol_at t file i e ≡ Ok s → (c : Result (Unit {0}) Reason) → (rule_of f).fault (result_at t file i e f s) ≡ c →
               Told (Stored f) (checked_field f at (result_at t file i e f s) c)
-          by_value s at same Right ranged =
+          by_value s at same (Ok _) ranged =
               passes record { in-section = in-section; in_place = in_place; symbol = s; valued = same; ranged = ranged }
-          by_value s at same (Wrong reason) beyond = refuses (relocation_ranges i e s f reason made stores same beyond)
+          by_value s at same (Err reason) beyond = refuses (relocation_ranges i e s f reason made stores same beyond)
 
           -- by its symbol
-          by-symbol : (s : SymbolValue) → symbol_at t file i e ≡ s → Told (Stored f) (with_symbol l (area_at file i) entry f s)
-          by-symbol (Value s) same = by_value s _ same ((rule_of f).fault (result_at t file i e f s)) refl
-          by-symbol (Refused reason) same = refuses (relocation_symbols i e f reason made stores same)
+          by-symbol : (s : Result ℕ Reason) → symbol_at t file i e ≡ s → Told (Stored f) (with_symbol l (area_at file i) entry f s)
+          by-symbol (Ok s) same = by_value s _ same ((rule_of f).fault (result_at t file i e f s)) refl
+          by-symbol (Err reason) same = refuses (relocation_symbols i e f reason made stores same)
 
         -- by its field
         by_field : Told (Stored f) (in_field l (area_at file i) entry f)

@@ -1,12 +1,12 @@
 -- The verdict of all relocations is a scan of the sections, each a scan of its entries: the slot's bytes decide nothing.
+use Rattle.records.specs.Refusal.{Verdict}
+use Rattle.std.proofs.Common.{Ok, Err}
 use Prim.Native.Nat.{ℕ, zero, suc, ◌*◌}
 use mathlib.Core.Path.{◌≡◌, refl}
 use mathlib.Core.Bool.{Bool, true, false, cond}
 use mathlib.Core.List.{List}
 use Rattle.words.specs.Scan.{scan}
 use Rattle.records.specs.Verdict.{◌then◌}
-use Rattle.records.specs.declared.refusal.Verdict.{Verdict}
-use Rattle.records.specs.declared.refusal.Verdict.TheVariants.{Pass, Refuse}
 use Rattle.elf.specs.Layout.{relocation_size, relocation_of}
 use Rattle.machine.specs.Machine.{Machine}
 use Rattle.object.specs.Sections.{section_count, sections}
@@ -14,6 +14,7 @@ use Rattle.placement.specs.Placement.{image_before}
 use Rattle.linking.specs.Linking.{Linking}
 use Rattle.reader.specs.Entries.{relocation_count}
 use Rattle.relocation.specs.Relocating.{
+  Field,
   Relocated,
   relocated,
   field_of,
@@ -27,7 +28,6 @@ use Rattle.relocation.specs.Relocating.{
   relocate_all,
 }
 use Rattle.relocation.specs.declared.fields.Area.{Area}
-use Rattle.relocation.specs.declared.fields.Field.{Field}
 use Rattle.acceptance.specs.Rules.{section, contents_at, relocation_at, area_at}
 use Rattle.acceptance.specs.Stages.{Setting, machine_at, linking_for, relocated_of}
 
@@ -36,12 +36,12 @@ use Rattle.acceptance.specs.Stages.{Setting, machine_at, linking_for, relocated_
 go-on-verdict :
     (v rest : Verdict) (image : List ℕ) (next : List ℕ → Relocated) → ((other : List ℕ) → (next other).verdict ≡ rest) →
     (go_on v image next).verdict ≡ (v then rest)
-go-on-verdict Pass rest image next h = h image
-go-on-verdict (Refuse r) rest image next h = refl
+go-on-verdict (Ok _) rest image next h = h image
+go-on-verdict (Err r) rest image next h = refl
 
 where-verdict :
     (test : Bool) (r : Relocated) (image : List ℕ) {v : Verdict} → r.verdict ≡ v →
-    (cond test r (relocated Pass image)).verdict ≡ cond test v Pass
+    (cond test r (relocated (Ok tt) image)).verdict ≡ cond test v (Ok tt)
 where-verdict true r image h = h
 where-verdict false r image h = refl
 
@@ -51,7 +51,7 @@ module _ (m : Machine) (l : Linking) (area : Area) (entries : List ℕ) where
   entries-verdict :
       (e k : ℕ) (image : List ℕ) →
       (relocate_entries m l area entries e k image).verdict
-      ≡ scan (λ j rest. field_verdict (field_of m l area (relocation_of entries (relocation_size * j))) area.section j then rest) Pass e k
+      ≡ scan (λ j rest. field_verdict (field_of m l area (relocation_of entries (relocation_size * j))) area.section j then rest) (Ok tt) e k
   unfolding relocate_entries scan
   entries-verdict e zero image = refl
   entries-verdict e (suc k) image =
@@ -67,10 +67,10 @@ module _ (t : Setting) (file : List ℕ) where
 
   -- the verdict of the relocations of section i, and that of a section that may have none
   abbrev pub entry_rules : ℕ → Verdict
-  entry_rules i = scan (λ e rest. field_verdict (field_at i e) i e then rest) Pass 0 (relocation_count (contents_at file i))
+  entry_rules i = scan (λ e rest. field_verdict (field_at i e) i e then rest) (Ok tt) 0 (relocation_count (contents_at file i))
 
   abbrev pub section_rules : ℕ → Verdict
-  section_rules i = cond (is_relocating (sections file) (section file i)) (entry_rules i) Pass
+  section_rules i = cond (is_relocating (sections file) (section file i)) (entry_rules i) (Ok tt)
 
   section-verdict :
       (i : ℕ) (image : List ℕ) → (relocate_section (machine_at t) (linking_for t file) file i image).verdict ≡ section_rules i
@@ -81,7 +81,7 @@ module _ (t : Setting) (file : List ℕ) where
 
   sections-verdict :
       (i k : ℕ) (image : List ℕ) →
-      (relocate_from (machine_at t) (linking_for t file) file i k image).verdict ≡ scan (λ j rest. section_rules j then rest) Pass i k
+      (relocate_from (machine_at t) (linking_for t file) file i k image).verdict ≡ scan (λ j rest. section_rules j then rest) (Ok tt) i k
   unfolding relocate_from scan
   sections-verdict i zero image = refl
   sections-verdict i (suc k) image =
@@ -89,6 +89,6 @@ module _ (t : Setting) (file : List ℕ) where
       let later = relocate_from (machine_at t) (linking_for t file) file (suc i) k in
       rw (← section-verdict i image) (go-on-verdict now.verdict _ now.image later (sections-verdict (suc i) k))
 
-  pub relocated-verdict : (relocated_of t file).verdict ≡ scan (λ i rest. section_rules i then rest) Pass 0 (section_count file)
+  pub relocated-verdict : (relocated_of t file).verdict ≡ scan (λ i rest. section_rules i then rest) (Ok tt) 0 (section_count file)
   unfolding relocated_of relocate_all
   relocated-verdict = sections-verdict 0 (section_count file) (image_before file (sections file) (section_count file))

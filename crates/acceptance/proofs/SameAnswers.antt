@@ -1,4 +1,6 @@
 -- Document 01: "Payloads that differ only in bytes of ignored contents, within no other consulted range, get the same answer and memory."
+use Rattle.records.specs.Refusal.{Verdict}
+use Rattle.std.proofs.Common.{Ok, Err}
 use Prim.Native.Nat.{ℕ}
 use mathlib.Core.Path.{◌≡◌, refl, ap, ◌∙◌}
 use mathlib.Core.Bool.{Bool, true, false, or-true}
@@ -8,8 +10,6 @@ use borrow.Author.Tests.{eqb-true, eqb-false}
 use lib.Dec.{eqb}
 use lib.ListN.{get_or}
 use Rattle.records.specs.Verdict.{◌then◌}
-use Rattle.records.specs.declared.refusal.Verdict.{Verdict}
-use Rattle.records.specs.declared.refusal.Verdict.TheVariants.{Pass, Refuse}
 use Rattle.records.proofs.Checks.{then-pass}
 use Rattle.elf.specs.declared.SectionHeader.{SectionHeader}
 use Rattle.machine.specs.Machine.{Machine}
@@ -44,12 +44,12 @@ Given t a b =
 -- "the same answer and memory"
 pub record SameAnswer (t : Setting) (a b : List ℕ) : Type 0 where
   pub rules : payload_rules t a ≡ payload_rules t b
-  pub given : payload_rules t a ≡ Pass → Given t a b
+  pub given : payload_rules t a ≡ Ok tt → Given t a b
 
 -- ordered checks: the later ones count only where the first passes
-then-alike : (v w x y : Verdict) → v ≡ w → (v ≡ Pass → x ≡ y) → (v then x) ≡ (w then y)
-then-alike Pass w x y e next = rw (← e) (next refl)
-then-alike (Refuse r) w x y e next = rw (← e)
+then-alike : (v w x y : Verdict) → v ≡ w → (v ≡ Ok tt → x ≡ y) → (v then x) ≡ (w then y)
+then-alike (Ok _) w x y e next = rw (← e) (next refl)
+then-alike (Err r) w x y e next = rw (← e)
 
 -- ---- by the table of sections
 
@@ -93,7 +93,7 @@ module _ (a b : List ℕ) (ss : List SectionEntry) (n : ℕ) (same : SameContent
 -- ---- by the files
 
 module _ (a b : List ℕ) (alike : Alike a b) where
-  module _ (names : name_table_rules a ≡ Pass) where
+  module _ (names : name_table_rules a ≡ Ok tt) where
     -- what is made of the table of sections is the same
     same-table : {A : Type 0} (f : List SectionEntry → ℕ → A) → f (sections a) (section_count a) ≡ f (sections b) (section_count b)
     same-table f = rw (sections-alike a b alike names, count-alike a b alike)
@@ -110,7 +110,7 @@ module _ (a b : List ℕ) (alike : Alike a b) where
       then-alike _ _ _ _ (name_table-rules-alike a b alike) λ names. table-rules-alike names
 
   -- a file that is read
-  module _ (t : Setting) (passes : read_rules (machine_at t) a ≡ Pass) where
+  module _ (t : Setting) (passes : read_rules (machine_at t) a ≡ Ok tt) where
     stages : ReadPasses a
     stages = read-passes a (machine_at t) passes
 

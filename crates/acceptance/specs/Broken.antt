@@ -1,17 +1,14 @@
 -- The rule that a refusal's number and place name, and that it is broken: one line for each field of `Keeps`.
-use Rattle.std.specs.Prelude.{ℕ, suc, ◌+◌, ◌≤◌, ◌<◌, ◌≡◌, true, false, List, leb, eqb, length}
+use Rattle.std.specs.Prelude.{ℕ, suc, ◌+◌, ◌≤◌, ◌<◌, ◌≡◌, true, false, List, leb, eqb, length, Err, Ok}
 use Rattle.records.specs.Limits.{placed_max}
-use Rattle.records.specs.Refusal.{number_of}
+use Rattle.records.specs.Refusal.{number_of, Verdict}
 use Rattle.records.specs.declared.refusal.Place.{Place}
 use Rattle.records.specs.declared.refusal.Place.TheVariants.{Nowhere, Section, Entry, Record}
 use Rattle.records.specs.declared.refusal.Reason.{Reason}
 use Rattle.records.specs.declared.refusal.Refusal.{Refusal}
-use Rattle.records.specs.declared.refusal.Verdict.{Verdict}
-use Rattle.records.specs.declared.refusal.Verdict.TheVariants.{Pass, Refuse}
 use Rattle.elf.specs.Layout.{file_header_of}
 use Rattle.elf.specs.Name.{is_named}
 use Rattle.machine.specs.Host.{rule_of}
-use Rattle.machine.specs.declared.fields.Checked.TheVariants.{Wrong}
 use Rattle.machine.specs.declared.fields.FieldType.{FieldType}
 use Rattle.machine.specs.declared.processor.RelocationType.TheVariants.{Stores, Unknown}
 use Rattle.header.specs.Header.{size_ok, fields_ok, table_inside}
@@ -23,11 +20,8 @@ use Rattle.notes.specs.Notes.{note_ok}
 use Rattle.payload.specs.Counts.{symbol_table_ok, records_size_ok}
 use Rattle.payload.specs.RelocationHeaders.{relocation_header_ok}
 use Rattle.placement.specs.Placement.{end_before}
-use Rattle.linking.specs.declared.values.SymbolValue.TheVariants.{Value, Refused}
 use Rattle.functions.specs.Edits.{form_ok, jump_ok, fill_ok, in_text, addresses_ok}
 use Rattle.functions.specs.Pairs.{touch}
-use Rattle.functions.specs.declared.function.OldAddress as old
-use Rattle.functions.specs.declared.function.OldAddress.TheVariants.{At}
 use Rattle.acceptance.specs.Keeps.{Keeps}
 use Rattle.acceptance.specs.Rules.{
   section,
@@ -107,23 +101,23 @@ pub data Broken (t : Setting) (file : List ℕ) : ℕ → Place → Type 0 where
       (rule_of f).aligned (place_at t file i e) ≡ false → Broken t file 22 (Entry i e)
   relocation_symbols :
       (i e : ℕ) (f : FieldType) (reason : Reason) → Made file i e → type_at (machine_at t) file i e ≡ Stores f →
-      symbol_at t file i e ≡ Refused reason → Broken t file (number_of reason) (Entry i e)
+      symbol_at t file i e ≡ Err reason → Broken t file (number_of reason) (Entry i e)
   relocation_ranges :
       (i e s : ℕ) (f : FieldType) (reason : Reason) → Made file i e → type_at (machine_at t) file i e ≡ Stores f →
-      symbol_at t file i e ≡ Value s → (rule_of f).fault (result_at t file i e f s) ≡ Wrong reason →
+      symbol_at t file i e ≡ Ok s → (rule_of f).fault (result_at t file i e f s) ≡ Err reason →
       Broken t file (number_of reason) (Entry i e)
   -- "records (name's 22, 3, all other 22, 34), pairs"
   function_names :
-      (r : ℕ) (reason : Reason) → r < record_count file → old_address_at t file r ≡ old.TheVariants.Refused reason →
+      (r : ℕ) (reason : Reason) → r < record_count file → old_address_at t file r ≡ Err reason →
       Broken t file (number_of reason) (Record r)
   function_forms :
       (r : ℕ) → r < record_count file → form_ok (placed_bytes t file) (start_at file r) (function_at t file r) ≡ false →
       Broken t file 22 (Record r)
   function_texts :
-      (r old : ℕ) → r < record_count file → old_address_at t file r ≡ At old →
+      (r old : ℕ) → r < record_count file → old_address_at t file r ≡ Ok old →
       in_text (patching_of t file) old (function_at t file r) ≡ false → Broken t file 22 (Record r)
   function_places :
-      (r old : ℕ) → r < record_count file → old_address_at t file r ≡ At old →
+      (r old : ℕ) → r < record_count file → old_address_at t file r ≡ Ok old →
       addresses_ok (patching_of t file) old (function_at t file r) ≡ false → Broken t file 22 (Record r)
   function_jumps :
       (r : ℕ) → r < record_count file → eqb (function_at t file r).new_addr 0 ≡ false →
@@ -132,7 +126,7 @@ pub data Broken (t : Setting) (file : List ℕ) : ℕ → Place → Type 0 where
       (r : ℕ) → r < record_count file → eqb (function_at t file r).new_addr 0 ≡ true →
       fill_ok (patching_of t file) (function_at t file r) ≡ false → Broken t file 22 (Record r)
   function_reach :
-      (r old : ℕ) → r < record_count file → eqb (function_at t file r).new_addr 0 ≡ false → old_address_at t file r ≡ At old →
+      (r old : ℕ) → r < record_count file → eqb (function_at t file r).new_addr 0 ≡ false → old_address_at t file r ≡ Ok old →
       (machine_at t).reaches ((machine_at t).displacement old (function_at t file r).new_addr) ≡ false →
       Broken t file 34 (Record r)
   -- "at the later record (lowest later record first)": no two records before it touch
@@ -143,6 +137,6 @@ pub data Broken (t : Setting) (file : List ℕ) : ℕ → Place → Type 0 where
 
 -- what a verdict on a payload says: accepted exactly when every rule is kept, refused with the number and the place of a broken one
 pub record Exact (t : Setting) (file : List ℕ) (verdict : Verdict) : Type 0 where
-  pub accepted : verdict ≡ Pass → Keeps t file
-  pub kept : Keeps t file → verdict ≡ Pass
-  pub refused : (r : Refusal) → verdict ≡ Refuse r → Broken t file (number_of r.reason) r.place
+  pub accepted : verdict ≡ Ok tt → Keeps t file
+  pub kept : Keeps t file → verdict ≡ Ok tt
+  pub refused : (r : Refusal) → verdict ≡ Err r → Broken t file (number_of r.reason) r.place

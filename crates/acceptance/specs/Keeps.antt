@@ -1,12 +1,11 @@
 -- Document 01's rules of a payload, without order: one field for each sentence. A payload is accepted exactly when it keeps them all.
 -- `Keeps`, at the end, is all of them.
-use Rattle.std.specs.Prelude.{ℕ, ◌+◌, ◌≤◌, ◌<◌, ◌≡◌, true, false, List, eqb, length}
+use Rattle.std.specs.Prelude.{ℕ, ◌+◌, ◌≤◌, ◌<◌, ◌≡◌, true, false, List, eqb, length, Ok}
 use Rattle.records.specs.Limits.{placed_max}
 use Rattle.elf.specs.Layout.{file_header_of}
 use Rattle.elf.specs.Name.{is_named}
 use Rattle.machine.specs.Host.{rule_of}
 use Rattle.machine.specs.Machine.{Machine}
-use Rattle.machine.specs.declared.fields.Checked.TheVariants.{Right}
 use Rattle.machine.specs.declared.fields.FieldType.{FieldType}
 use Rattle.machine.specs.declared.processor.RelocationType.TheVariants.{Stores, Unknown}
 use Rattle.header.specs.Header.{size_ok, fields_ok, table_inside}
@@ -17,10 +16,8 @@ use Rattle.object.specs.Sections.{section_count, sections, section_name, name_ta
 use Rattle.notes.specs.Notes.{note_ok}
 use Rattle.payload.specs.Counts.{symbol_table_ok, records_size_ok}
 use Rattle.payload.specs.RelocationHeaders.{relocation_header_ok}
-use Rattle.linking.specs.declared.values.SymbolValue.TheVariants.{Value}
 use Rattle.functions.specs.Edits.{form_ok, jump_ok, fill_ok, in_text, addresses_ok}
 use Rattle.functions.specs.Pairs.{touch}
-use Rattle.functions.specs.declared.function.OldAddress.TheVariants.{At}
 use Rattle.acceptance.specs.Rules.{
   section,
   contents_at,
@@ -107,25 +104,25 @@ pub record KeepsRelocations (t : Setting) (file : List ℕ) : Type 0 where
   -- "S: symbol 0 is 0, other numbers lie in the table; ..": each relocation's symbol has a value
   pub relocation_symbols :
       (i e : ℕ) (f : FieldType) → Made file i e → type_at (machine_at t) file i e ≡ Stores f →
-      (s : ℕ) × (symbol_at t file i e ≡ Value s)
+      (s : ℕ) × (symbol_at t file i e ≡ Ok s)
   -- "A 4-byte result must, read as signed 64-bit, lie in -2^31 to 2^31 - 1."
   pub relocation_ranges :
-      (i e s : ℕ) (f : FieldType) → Made file i e → type_at (machine_at t) file i e ≡ Stores f → symbol_at t file i e ≡ Value s →
-      (rule_of f).fault (result_at t file i e f s) ≡ Right
+      (i e s : ℕ) (f : FieldType) → Made file i e → type_at (machine_at t) file i e ≡ Stores f → symbol_at t file i e ≡ Ok s →
+      (rule_of f).fault (result_at t file i e f s) ≡ Ok tt
 
 -- ---- "Function records"
 
 pub record KeepsFunctions (t : Setting) (file : List ℕ) : Type 0 where
   -- "old_addr 0: name points into the placed bytes at 1 to 127 bytes ended by zero, and is looked up"
-  pub function_names : (r : ℕ) → r < record_count file → (old : ℕ) × (old_address_at t file r ≡ At old)
+  pub function_names : (r : ℕ) → r < record_count file → (old : ℕ) × (old_address_at t file r ≡ Ok old)
   -- "version 1; 31 zero bytes"
   pub function_forms : (r : ℕ) → r < record_count file → form_ok (placed_bytes t file) (start_at file r) (function_at t file r) ≡ true
   -- "The edit and all of old_size lie in text, by ordinary sums."
   pub function_texts :
-      (r old : ℕ) → r < record_count file → old_address_at t file r ≡ At old → in_text (patching_of t file) old (function_at t file r) ≡ true
+      (r old : ℕ) → r < record_count file → old_address_at t file r ≡ Ok old → in_text (patching_of t file) old (function_at t file r) ≡ true
   -- old and new code stand where the machine lets them
   pub function_places :
-      (r old : ℕ) → r < record_count file → old_address_at t file r ≡ At old → addresses_ok (patching_of t file) old (function_at t file r) ≡ true
+      (r old : ℕ) → r < record_count file → old_address_at t file r ≡ Ok old → addresses_ok (patching_of t file) old (function_at t file r) ≡ true
   -- "new_addr not 0: new_size at least 1, old_size at least 5, new code inside the placed bytes."
   pub function_jumps :
       (r : ℕ) → r < record_count file → eqb (function_at t file r).new_addr 0 ≡ false →
@@ -136,7 +133,7 @@ pub record KeepsFunctions (t : Setting) (file : List ℕ) : Type 0 where
       fill_ok (patching_of t file) (function_at t file r) ≡ true
   -- "new_addr - (old address + 5) in 4 bytes"
   pub function_reach :
-      (r old : ℕ) → r < record_count file → eqb (function_at t file r).new_addr 0 ≡ false → old_address_at t file r ≡ At old →
+      (r old : ℕ) → r < record_count file → eqb (function_at t file r).new_addr 0 ≡ false → old_address_at t file r ≡ Ok old →
       (machine_at t).reaches ((machine_at t).displacement old (function_at t file r).new_addr) ≡ true
   -- "The first pair of records whose edits touch a common byte refuses the payload": there is no such pair
   pub pairs : (i j : ℕ) → i < j → j < record_count file → touch (edit_for t file i) (edit_for t file j) ≡ false

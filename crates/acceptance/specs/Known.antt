@@ -1,12 +1,14 @@
 -- Document 01, "Numbers to hold against it": K1 to K9 in one table, over the definitions that the contracts cite. Each row speaks of any
 -- relocation, note or record that is as the row says, through all that decides its answer.
-use Rattle.std.specs.Prelude.{ℕ, ◌+◌, ◌-◌, ◌^◌, ◌≤◌, ◌≡◌, true, false, List, [], ◌∷◌, ◌++◌, ◌↔◌, eqb, ℤ, pos, neg_ℤ, length, replicate, ◌≤ℤ◌}
+use Rattle.records.specs.Refusal.{Verdict}
+use Rattle.records.specs.declared.payload.Edit.{Edit}
+use Rattle.records.specs.declared.refusal.Reason.{Reason}
+use Rattle.std.specs.Prelude.{ℕ, ◌+◌, ◌-◌, ◌^◌, ◌≤◌, ◌≡◌, true, false, List, [], ◌∷◌, ◌++◌, ◌↔◌, eqb, ℤ, pos, neg_ℤ, length, replicate, ◌≤ℤ◌, Ok, Result}
 use Rattle.words.specs.Address.{wrapping_sum, wrapping_difference, signed, stored, fits}
 use Rattle.words.specs.Number.{le_bytes}
 use Rattle.words.specs.Splice.{splice}
 use Rattle.records.specs.Verdict.{must}
 use Rattle.records.specs.declared.refusal.Place.TheVariants.{Section, Entry, Record}
-use Rattle.records.specs.declared.refusal.Verdict.{Verdict}
 use Rattle.elf.specs.declared.Relocation as elf
 use Rattle.machine.specs.Machine.{edit_bytes}
 use Rattle.machine.specs.X86.{x86_64}
@@ -19,13 +21,11 @@ use Rattle.notes.specs.Notes.{id_length, padded, note_ok, one_note}
 use Rattle.placement.specs.Placement.{end_before, offset_of}
 use Rattle.linking.specs.Linking.{Linking}
 use Rattle.linking.specs.Symbols.{symbol_value}
-use Rattle.linking.specs.declared.values.SymbolValue.TheVariants.{Value}
 use Rattle.relocation.specs.Relocating.{field_address, field_of, field_verdict, store_in}
 use Rattle.relocation.specs.declared.fields.Area.{Area}
 use Rattle.functions.specs.Edits.{form_ok, in_text, jump_ok, edit_from}
 use Rattle.functions.specs.Functions.{edit_verdict, made_of}
 use Rattle.functions.specs.Patching.{Patching}
-use Rattle.functions.specs.declared.edits.RecordEdit.{RecordEdit}
 use Rattle.functions.specs.declared.function.FunctionRecord.{FunctionRecord}
 
 -- ---- what the rows speak of
@@ -35,7 +35,7 @@ pub record Relative (l : Linking) (area : Area) (r : elf.Relocation) (v : ℕ) :
   pub typed : r.r_type ≡ 2
   pub inside : r.r_offset + 4 ≤ area.size
   pub symbol : ℕ
-  pub resolved : symbol_value l r.r_symbol ≡ Value symbol
+  pub resolved : symbol_value l r.r_symbol ≡ Ok symbol
   pub result : wrapping_difference (wrapping_sum symbol r.r_addend) (field_address l area r) ≡ v
 
 -- a record on x86-64 with nothing against it but what its kind of edit asks
@@ -51,7 +51,7 @@ pub record Jumps (p : Patching) (at old new : ℕ) (f : FunctionRecord) : Type 0
   pub right : jump_ok p f ≡ true
 
 -- the bytes that a record's edit puts into the text
-abbrev pub bytes_for : RecordEdit → List ℕ
+abbrev pub bytes_for : Result Edit Reason → List ℕ
 bytes_for e = edit_bytes x86_64 (made_of e)
 
 -- a placed section by its size and alignment
@@ -92,7 +92,7 @@ pub record KnownAnswers : Type 0 where
   pub k3 :
       (l : Linking) (area : Area) (r : elf.Relocation) (image : List ℕ) →
       r.r_type ≡ 2 → r.r_offset + 4 ≤ area.size →
-      symbol_value l r.r_symbol ≡ Value 0xffff82d08015fbb9 → r.r_addend ≡ 2 ^ 64 - 4 →
+      symbol_value l r.r_symbol ≡ Ok 0xffff82d08015fbb9 → r.r_addend ≡ 2 ^ 64 - 4 →
       field_address l area r ≡ 0xffff82d080104a6a →
       store_in image (field_of x86_64 l area r) ≡ splice image (area.start + r.r_offset) (0x4b ∷ 0xb1 ∷ 0x05 ∷ 0x00 ∷ [])
   -- "K4 2^31 - 1 stands, 2^31 gives 34."

@@ -1,5 +1,6 @@
 -- What document 01's rules speak of: a section, a relocation that is made, a function record.
-use Rattle.std.specs.Prelude.{ℕ, ◌*◌, ◌<◌, ◌≡◌, true, false, List}
+use Rattle.records.specs.declared.refusal.Reason.{Reason}
+use Rattle.std.specs.Prelude.{ℕ, ◌*◌, ◌<◌, ◌≡◌, true, false, List, Result}
 use Rattle.records.specs.declared.payload.Edit.{Edit}
 use Rattle.elf.specs.Layout.{relocation_size, relocation_of}
 use Rattle.elf.specs.declared.Relocation as elf
@@ -13,7 +14,6 @@ use Rattle.object.specs.Sections.{section_count, sections, section_in, contents_
 use Rattle.object.specs.declared.sections.SectionEntry.{SectionEntry}
 use Rattle.payload.specs.RelocationHeaders.{relocation_header_ok}
 use Rattle.linking.specs.Symbols.{symbol_value}
-use Rattle.linking.specs.declared.values.SymbolValue.{SymbolValue}
 use Rattle.reader.specs.Entries.{relocation_count}
 use Rattle.relocation.specs.Relocating.{area_of, field_address, is_relocating}
 use Rattle.relocation.specs.declared.fields.Area.{Area}
@@ -21,7 +21,6 @@ use Rattle.functions.specs.Functions.{record_at, edits_of}
 use Rattle.functions.specs.Pairs.{edit_in}
 use Rattle.functions.specs.Records.{record_of, old_address_of}
 use Rattle.functions.specs.declared.function.FunctionRecord.{FunctionRecord}
-use Rattle.functions.specs.declared.function.OldAddress.{OldAddress}
 use Rattle.acceptance.specs.Stages.{Setting, kind_index, linking_for, placed_bytes, records_start, record_count, patching_of}
 
 -- ---- sections
@@ -62,7 +61,7 @@ abbrev pub place_at : Setting → List ℕ → ℕ → ℕ → ℕ
 place_at t file i e = field_address (linking_for t file) (area_at file i) (relocation_at file i e)
 
 -- S, or why there is none
-abbrev pub symbol_at : Setting → List ℕ → ℕ → ℕ → SymbolValue
+abbrev pub symbol_at : Setting → List ℕ → ℕ → ℕ → Result ℕ Reason
 symbol_at t file i e = symbol_value (linking_for t file) (relocation_at file i e).r_symbol
 
 -- what a field of this type gets where S is s
@@ -79,7 +78,7 @@ abbrev pub function_at : Setting → List ℕ → ℕ → FunctionRecord
 function_at t file r = record_of (placed_bytes t file) (start_at file r)
 
 -- its old address, or why there is none
-abbrev pub old_address_at : Setting → List ℕ → ℕ → OldAddress
+abbrev pub old_address_at : Setting → List ℕ → ℕ → Result ℕ Reason
 old_address_at t file r = old_address_of (patching_of t file) (function_at t file r)
 
 -- the edit that record r asks for

@@ -1,8 +1,8 @@
 -- Document 01's rules of a payload by itself, in their order, and what the stages after the reading work on.
+use Rattle.records.specs.Refusal.{Verdict}
 use Rattle.std.specs.Prelude.{ℕ, ◌/◌, List, take}
 use Rattle.records.specs.Limits.{record_size}
 use Rattle.records.specs.Verdict.{◌then◌}
-use Rattle.records.specs.declared.refusal.Verdict.{Verdict}
 use Rattle.machine.specs.Host.{host_machine}
 use Rattle.machine.specs.Machine.{Machine}
 use Rattle.machine.specs.declared.host.Host.{Host}

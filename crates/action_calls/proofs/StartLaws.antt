@@ -1,14 +1,13 @@
 -- Start-up over the records buffer, by what it answered.
+use Rattle.std.proofs.Common.{Ok, Err}
 use Prim.Native.Nat.{ℕ}
 use mathlib.Core.Path.{◌≡◌, sym, ap, subst, ◌∙◌}
 use mathlib.Core.List.{List}
 use borrow.Author.Tests.{eq-eqb, ne_eqb}
 use lib.ListN.{length, replicate}
-use Rattle.records.specs.Refusal.{refusal_code, verdict_code}
+use Rattle.records.specs.Refusal.{refusal_code, verdict_code, Verdict}
 use Rattle.records.specs.Verdict.{decide}
 use Rattle.records.specs.declared.refusal.Refusal.{Refusal}
-use Rattle.records.specs.declared.refusal.Verdict.{Verdict}
-use Rattle.records.specs.declared.refusal.Verdict.TheVariants.{Pass, Refuse}
 use Rattle.records.proofs.Numbers.{code-some}
 use Rattle.acceptance.proofs.Refusals.{pass-refuses}
 use Rattle.memory.specs.Memory.{arena_size, undo_size, ids_size}
@@ -51,24 +50,24 @@ accepted-by :
     (l : Lent) (v : Verdict) {x : Started} →
     x
     ≡ decide
-    (λ r. record { answer = Refuse r; state = no_state; arena = l.arena; undo = l.undo; ids = l.ids })
+    (λ r. record { answer = Err r; state = no_state; arena = l.arena; undo = l.undo; ids = l.ids })
     (record {
-      answer = Pass;
+      answer = Ok tt;
       state = state_with (config_for l);
       arena = replicate arena_size 0;
       undo = replicate undo_size 0;
       ids = replicate ids_size 0;
     })
     v →
-    x.answer ≡ Pass → x.state ≡ state_with (config_for l)
-accepted-by l Pass e pass = ap (λ (y : Started). y.state) e
-accepted-by l (Refuse r) e pass = absurd (pass-refuses (sym pass ∙ ap (λ (y : Started). y.answer) e))
+    x.answer ≡ Ok tt → x.state ≡ state_with (config_for l)
+accepted-by l (Ok _) e pass = ap (λ (y : Started). y.state) e
+accepted-by l (Err r) e pass = absurd (pass-refuses (sym pass ∙ ap (λ (y : Started). y.answer) e))
 
-pub accepted-state : (l : Lent) {x : Started} → x ≡ start_of l → x.answer ≡ Pass → x.state ≡ state_with (config_for l)
+pub accepted-state : (l : Lent) {x : Started} → x ≡ start_of l → x.answer ≡ Ok tt → x.state ≡ state_with (config_for l)
 unfolding start_of
 accepted-state l e pass = accepted-by l (start_rules l) e pass
 
 pub accepted-start :
-    (l : Lent) (r : Called) {arena undo ids after : List ℕ} {answer : ℕ} → started r arena undo ids ≡ start_of l → r.verdict ≡ Pass →
+    (l : Lent) (r : Called) {arena undo ids after : List ℕ} {answer : ℕ} → started r arena undo ids ≡ start_of l → r.verdict ≡ Ok tt →
     HoldsState r.state after → StartKept answer l after
 accepted-start l r {arena} {undo} {ids} {after} e pass k zero = subst (λ (s : State). HoldsState s after) (accepted-state l e pass) k

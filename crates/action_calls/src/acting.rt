@@ -5,7 +5,7 @@ ghost use Rattle.state_bytes.specs.Stored.{state_in};
 ghost use Rattle.action_calls.specs.Changes.{action_told};
 ghost use Rattle.calls.specs.Told.{told, RecordsKept};
 
-use records::refusal::{Place, Reason, Refusal};
+use records::refusal::{self, Place, Reason, Refusal};
 use state_bytes::buffer;
 use state_writes::whole;
 
@@ -44,5 +44,5 @@ pub fn action(
     let next = called.state;
     whole::store(records, next);
     let verdict = called.verdict;
-    verdict.code()
+    refusal::code(verdict)
 }

@@ -3,7 +3,7 @@ ghost use Rattle.std.specs.Prelude.{◌≡◌};
 ghost use Rattle.action_calls.specs.Changes.{memory, start_lent, start_told, StartKept};
 ghost use Rattle.calls.specs.Told.{told};
 
-use records::refusal::{Place, Reason, Refusal, Verdict};
+use records::refusal::{Place, Reason, Refusal};
 use state_bytes::buffer;
 use state_writes::whole;
 
@@ -35,7 +35,7 @@ pub fn start(
         text, text_base, arena, arena_base, undo, ids, build_id, cpus,
     );
     let verdict = called.verdict;
-    if let Verdict::Refuse(r) = verdict {
+    if let Err(r) = verdict {
         return r.code();
     }
     let next = called.state;

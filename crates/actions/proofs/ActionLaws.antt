@@ -1,15 +1,12 @@
 -- An action by what its stages answered.
-use Rattle.std.proofs.Common.{◌≡◌, ℕ, Bool, true, false, cond, eqb, List, length, sym, ◌∙◌, eq-eqb, ne_eqb, eqb-true}
-use Rattle.words.specs.declared.bytes.Found.TheVariants.{At}
+use Rattle.std.proofs.Common.{◌≡◌, ℕ, Bool, true, false, cond, eqb, List, length, sym, ◌∙◌, eq-eqb, ne_eqb, eqb-true, Some, Ok, Err}
 use Rattle.words.proofs.Tests.{five}
-use Rattle.records.specs.Refusal.{number_of}
+use Rattle.records.specs.Refusal.{number_of, Verdict}
 use Rattle.records.specs.Verdict.{refusal, must, decide}
 use Rattle.records.specs.declared.payload.Payload.{Payload}
 use Rattle.records.specs.declared.refusal.Reason.TheVariants.{Invalid}
 use Rattle.records.specs.declared.refusal.Place.TheVariants.{Nowhere}
 use Rattle.records.specs.declared.refusal.Refusal.{Refusal}
-use Rattle.records.specs.declared.refusal.Verdict.{Verdict}
-use Rattle.records.specs.declared.refusal.Verdict.TheVariants.{Pass, Refuse}
 use Rattle.memory.specs.Memory.{arena_size, undo_size, ids_size}
 use Rattle.state.specs.Change.{changed_at}
 use Rattle.state.specs.Find.{with_name, payload_at}
@@ -65,7 +62,7 @@ begun-same p q = rw (p, q)
 -- ---- the conditions: n is the status that the command needs
 
 module _ (s : State) (build_id ids : List ℕ) (command : ℕ) (p : Payload) {n : ℕ} (needed : n ≡ status_for command) where
-  pub wrong-status : (p.status ≡ n → ⊥) → condition_rules s build_id ids command p ≡ Refuse (refusal Invalid Nowhere)
+  pub wrong-status : (p.status ≡ n → ⊥) → condition_rules s build_id ids command p ≡ Err (refusal Invalid Nowhere)
   unfolding condition_rules
   wrong-status h = rw (ne_eqb p.status (status_for command) (λ same. h (same ∙ sym needed)))
 
@@ -79,18 +76,18 @@ module _ (s : State) (build_id ids : List ℕ) (command : ℕ) (p : Payload) {n 
 
 -- a refusal that sets no result
 abbrev pub refused_action : State → Lent → Refusal → Acted
-refused_action s l r = acted (called (Refuse r) s) l
+refused_action s l r = acted (called (Err r) s) l
 
 -- a refusal that sets the result of the payload at place i
 abbrev pub refused_at : State → Lent → ℕ → Refusal → Acted
-refused_at s l i r = acted (called (Refuse r) (changed_at (with_result (number_of r.reason)) s i)) l
+refused_at s l i r = acted (called (Err r) (changed_at (with_result (number_of r.reason)) s i)) l
 
 -- the payload at place i is unloaded, or its job begins
 abbrev pub done_at : State → Lent → Request → ℕ → Acted
 done_at s l q i =
     cond (eqb q.command unload)
-    (acted (called Pass (unloaded_at s (At i))) (cleared (payload_at s i).slot l))
-    (acted (called Pass (with_job (job_for q.command (payload_at s i).slot q.time) (changed_at (with_result 11) s i))) l)
+    (acted (called (Ok tt) (unloaded_at s (Some i))) (cleared (payload_at s i).slot l))
+    (acted (called (Ok tt) (with_job (job_for q.command (payload_at s i).slot q.time) (changed_at (with_result 11) s i))) l)
 
 module _ (s : State) (build_id : List ℕ) (l : Lent) (q : Request) where
   abbrev pub sizes_right : Bool
@@ -102,13 +99,13 @@ module _ (s : State) (build_id : List ℕ) (l : Lent) (q : Request) where
 
   module _ (sizes : sizes_right ≡ true) where
     pub wrong-request :
-        {r : Refusal} → target_rules s q.name q.command ≡ Refuse r → action_of s build_id l q ≡ refused_action s l r
+        {r : Refusal} → target_rules s q.name q.command ≡ Err r → action_of s build_id l q ≡ refused_action s l r
     unfolding action_of request_rules
     wrong-request e = rw (sizes, e)
 
     -- the request is right: the payload's status and the stack decide
     pub by-conditions :
-        {i : ℕ} {v : Verdict} → target_rules s q.name q.command ≡ Pass → with_name s q.name ≡ At i →
+        {i : ℕ} {v : Verdict} → target_rules s q.name q.command ≡ Ok tt → with_name s q.name ≡ Some i →
         condition_rules s build_id l.ids q.command (payload_at s i) ≡ v →
         action_of s build_id l q ≡ decide (refused_at s l i) (done_at s l q i) v
     unfolding action_of request_rules action_on job_begun

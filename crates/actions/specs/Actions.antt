@@ -1,20 +1,16 @@
 -- Document 01's actions: unload at once; revert, apply and replace become the one job.
-use Rattle.std.specs.Prelude.{ℕ, suc, ◌+◌, ◌-◌, ◌%◌, ◌^◌, Bool, true, cond, not, ◌&&◌, ◌||◌, List, [], ◌∷◌, ◌++◌, length, take, drop, replicate, ◌==◌, nat_le}
+use Rattle.std.specs.Prelude.{ℕ, suc, ◌+◌, ◌-◌, ◌%◌, ◌^◌, Bool, true, cond, not, ◌&&◌, ◌||◌, List, [], ◌∷◌, ◌++◌, length, take, drop, replicate, ◌==◌, nat_le, Some, None, Option, Ok, Err}
 use Rattle.words.specs.Name.{is_found}
 use Rattle.words.specs.Order.{equal}
 use Rattle.words.specs.Splice.{splice}
-use Rattle.words.specs.declared.bytes.Found.{Found}
-use Rattle.words.specs.declared.bytes.Found.TheVariants.{At, Nothing}
 use Rattle.records.specs.Limits.{placed_max, id_max}
 use Rattle.records.specs.Name.{is_name}
 use Rattle.records.specs.Payload.{empty}
-use Rattle.records.specs.Refusal.{number_of}
+use Rattle.records.specs.Refusal.{number_of, Verdict}
 use Rattle.records.specs.Verdict.{must, ◌then◌, decide}
 use Rattle.records.specs.declared.payload.Payload.{Payload}
 use Rattle.records.specs.declared.refusal.Place.TheVariants.{Nowhere}
 use Rattle.records.specs.declared.refusal.Refusal.{Refusal}
-use Rattle.records.specs.declared.refusal.Verdict.{Verdict}
-use Rattle.records.specs.declared.refusal.Verdict.TheVariants.{Pass, Refuse}
 use Rattle.memory.specs.Memory.{slot_at, arena_size, undo_at, undo_size, slot_undo_size, id_at, ids_size}
 use Rattle.state.specs.Change.{changed_found}
 use Rattle.state.specs.Find.{with_name, payload_found}
@@ -89,16 +85,16 @@ target_rules s name command =
     then must (not (is_busy s command (target s name))) 16 Nowhere
 
 -- where the payload stands in the list
-abbrev pub place_of : Found → ℕ
-place_of (At i) = i
-place_of Nothing = 0
+abbrev pub place_of : Option ℕ → ℕ
+place_of (Some i) = i
+place_of None = 0
 
 abbrev pub refused_target : Refusal → Target
-refused_target r = record { verdict = Refuse r; place = 0 }
+refused_target r = record { verdict = Err r; place = 0 }
 
 unfoldable pub target_of : State → List ℕ → ℕ → Target
 target_of s name command =
-    decide refused_target (record { verdict = Pass; place = place_of (with_name s name) }) (target_rules s name command)
+    decide refused_target (record { verdict = Ok tt; place = place_of (with_name s name) }) (target_rules s name command)
 
 unfoldable pub request_rules : State → List ℕ → Lent → Request → Verdict
 request_rules s build_id l q =
@@ -151,10 +147,10 @@ unfoldable pub removed_at : ℕ → List Payload → List Payload
 removed_at i ps = take i ps ++ drop (suc i) ps ++ (empty ∷ [])
 
 -- "Version .. grows by 1 modulo 2^32 at each accepted upload or unload"
-abbrev pub unloaded_at : State → Found → State
-unloaded_at s (At i) =
+abbrev pub unloaded_at : State → Option ℕ → State
+unloaded_at s (Some i) =
     with_version ((s.version + 1) % 2 ^ 32) (with_count (s.count - 1) (with_payloads (removed_at i s.payloads) s))
-unloaded_at s Nothing = s
+unloaded_at s None = s
 
 -- "Unload is done at once and zeroes the slot and its store entries."
 unfoldable pub cleared : ℕ → Lent → Lent
@@ -176,8 +172,8 @@ acted r after = record { answer = r.verdict; state = r.state; after = after }
 abbrev pub action_done : State → Lent → Request → Acted
 action_done s l q =
     cond (q.command == unload)
-    (record { answer = Pass; state = unloaded_at s (with_name s q.name); after = cleared (target s q.name).slot l })
-    (record { answer = Pass; state = job_begun s q; after = l })
+    (record { answer = Ok tt; state = unloaded_at s (with_name s q.name); after = cleared (target s q.name).slot l })
+    (record { answer = Ok tt; state = job_begun s q; after = l })
 
 -- an action on a payload that is loaded, where no job is in the way: a refusal sets its last result
 unfoldable pub action_on : State → List ℕ → Lent → Request → Acted
@@ -185,7 +181,7 @@ action_on s build_id l q =
     decide
     (λ r.
     record {
-      answer = Refuse r;
+      answer = Err r;
       state = changed_found (with_result (number_of r.reason)) s (with_name s q.name);
       after = l;
     })
@@ -194,4 +190,4 @@ action_on s build_id l q =
 
 unfoldable pub action_of : State → List ℕ → Lent → Request → Acted
 action_of s build_id l q =
-    decide (λ r. record { answer = Refuse r; state = s; after = l }) (action_on s build_id l q) (request_rules s build_id l q)
+    decide (λ r. record { answer = Err r; state = s; after = l }) (action_on s build_id l q) (request_rules s build_id l q)

@@ -4,7 +4,7 @@ ghost use Rattle.actions.specs.Actions.{lent, request, job_for, acted, action_of
 
 use super::{rules, unload};
 use memory::config::Config;
-use records::refusal::{Reason, Verdict};
+use records::refusal::Reason;
 use state::change;
 use state::state::{Called, Job, State};
 
@@ -45,20 +45,20 @@ pub fn action(
     }
     let target = rules::find_target(state, name, command);
     let found = target.verdict;
-    if let Verdict::Refuse(r) = found {
+    if let Err(r) = found {
         return Called {
-            verdict: Verdict::Refuse(r),
+            verdict: Err(r),
             state,
         };
     }
     let i = target.place;
     let payload = state.payloads[i];
     let verdict = rules::check_conditions(state, build_id, ids, command, payload);
-    if let Verdict::Refuse(r) = verdict {
+    if let Err(r) = verdict {
         let reason = r.reason;
         let told = change::set_result(state, i, reason.number() as u32);
         return Called {
-            verdict: Verdict::Refuse(r),
+            verdict: Err(r),
             state: told,
         };
     }
@@ -66,14 +66,14 @@ pub fn action(
         unload::clear(arena, undo, ids, payload.slot as usize);
         let rest = unload::unloaded(state, i);
         return Called {
-            verdict: Verdict::Pass,
+            verdict: Ok(()),
             state: rest,
         };
     }
     let mut next = change::set_result(state, i, 11);
     next.job = job_for(command, payload.slot, time);
     Called {
-        verdict: Verdict::Pass,
+        verdict: Ok(()),
         state: next,
     }
 }

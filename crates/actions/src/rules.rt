@@ -11,22 +11,21 @@ use memory::config::Config;
 use queries::top_id;
 use records::name;
 use records::payload::Payload;
-use records::refusal::{Place, Reason, Verdict};
+use records::refusal::{self, Place, Reason, Refusal};
 use state::state::{Job, State};
 use words::bytes;
-use words::bytes::Found;
 
 // Where the payload stands in the list; 0 where the verdict refuses.
 #[derive(Clone, Copy)]
 pub struct Target {
-    pub verdict: Verdict,
+    pub verdict: Result<(), Refusal>,
     pub place: usize,
 }
 
 fn refuse(reason: Reason) -> Target
     ensures { result ≡ refused_target (refusal reason Place.Nowhere) }
 {
-    let verdict = Verdict::refused(reason, Place::Nowhere);
+    let verdict = refusal::refused(reason, Place::Nowhere);
     Target { verdict, place: 0 }
 }
 
@@ -71,7 +70,7 @@ pub(crate) fn find_target(state: State, name: &[u8], command: u32) -> Target
     if !name::is_name(name) {
         return refuse(Reason::Invalid);
     }
-    let Found::At(place) = names::with_name(state, name) else {
+    let Some(place) = names::with_name(state, name) else {
         return refuse(Reason::NotLoaded);
     };
     if command < Job::UNLOAD {
@@ -84,7 +83,7 @@ pub(crate) fn find_target(state: State, name: &[u8], command: u32) -> Target
         return refuse(Reason::Busy);
     }
     Target {
-        verdict: Verdict::Pass,
+        verdict: Ok(()),
         place,
     }
 }
@@ -149,15 +148,15 @@ pub(crate) fn check_conditions<'a>(
     ids: &'a [u8],
     command: u32,
     payload: Payload,
-) -> Verdict
+) -> Result<(), Refusal>
     requires { (in_range state ≡ true) × (length ids.now ≡ ids_size) × (payload.dependency.length ≤ id_max) }
     ensures { result ≡ condition_rules state build_id.now ids.now command payload }
 {
     if payload.status != status_for(command) {
-        return Verdict::refused(Reason::Invalid, Place::Nowhere);
+        return refusal::refused(Reason::Invalid, Place::Nowhere);
     }
     if !base_ok(state, build_id, ids, command, payload) {
-        return Verdict::refused(Reason::WrongBase, Place::Nowhere);
+        return refusal::refused(Reason::WrongBase, Place::Nowhere);
     }
-    Verdict::Pass
+    Ok(())
 }

@@ -1,8 +1,7 @@
 // A payload unloaded.
-ghost use Rattle.std.specs.Prelude.{◌≡◌, ◌<◌, ◌≤◌, length};
+ghost use Rattle.std.specs.Prelude.{◌≡◌, ◌<◌, ◌≤◌, length, Some};
 ghost use Rattle.memory.specs.Memory.{slot_count, arena_size, undo_size, ids_size};
 ghost use Rattle.actions.specs.Actions.{lent, removed_at, unloaded_at, cleared};
-ghost use Rattle.words.specs.declared.bytes.Found.TheVariants.{At};
 
 use machine::processor;
 use memory::config::Config;
@@ -15,19 +14,15 @@ fn without(payloads: [Payload; Config::SLOTS], i: usize) -> [Payload; Config::SL
     ensures { result ≡ removed_at i payloads }
 {
     let mut left = payloads;
-    let mut k = i;
-    while k + 1 < Config::SLOTS {
-        left[k] = payloads[k + 1];
-        k += 1;
-    }
-    left[k] = Payload::empty();
+    left[i..Config::SLOTS - 1].copy_from_slice(&payloads[i + 1..]);
+    left[Config::SLOTS - 1] = Payload::empty();
     left
 }
 
 // The state without that payload.
 pub(crate) fn unloaded(state: State, i: usize) -> State
     requires { (i < state.count) × (state.count ≤ slot_count) }
-    ensures { result ≡ unloaded_at state (At i) }
+    ensures { result ≡ unloaded_at state (Some i) }
 {
     let payloads = state.payloads;
     let rest = without(payloads, i);

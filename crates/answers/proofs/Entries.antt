@@ -1,4 +1,6 @@
 -- The lines of list: the name of an entry, and the lines of one entry more.
+use Rattle.std.proofs.Common.{Result, Ok, Err}
+use Rattle.std.specs.Prelude.{IfOk}
 use Prim.Native.Nat.{ℕ, zero, suc, ◌+◌, ◌-◌, ◌*◌, ◌≤◌, min}
 use mathlib.Core.Path.{◌≡◌, refl, ap, ◌∙◌}
 use mathlib.Core.List.{List, [], ◌∷◌, ◌++◌, append-nil, append_assoc}
@@ -8,12 +10,11 @@ use native.Mathlib.Omega.{arith}
 use lib.ListN.{length, take, drop, length-append}
 use Rattle.words.specs.Scan.{scan}
 use Rattle.words.specs.Splice.{part}
-use Rattle.records.specs.Verdict.{decide}
-use Rattle.records.specs.declared.refusal.Verdict.{Verdict}
-use Rattle.records.specs.declared.refusal.Verdict.TheVariants.{Pass, Refuse}
+use Rattle.records.specs.declared.refusal.Refusal.{Refusal}
 use Rattle.memory.specs.Memory.{slot_count}
-use Rattle.listing.specs.List.{Buffers, Listing}
-use Rattle.answers.specs.Answers.{refusal_line, head_line, entry_line, entry_lines, list_lines}
+use Rattle.listing.specs.List.{Buffers}
+use Rattle.listing.specs.declared.Listed.{Listed}
+use Rattle.answers.specs.Answers.{entry_line, entry_lines, lines_after}
 use Rattle.answers.specs.Written.{line_room}
 use Rattle.answers.proofs.Lengths.{length-refusal, length-head, length-entry}
 
@@ -62,14 +63,8 @@ module _ (b : Buffers) where
 
 -- ---- the answer of list
 
-pub length-list : (x : Listing) → x.answer.written ≤ slot_count → length (list_lines x) ≤ 9 * line_room
-unfolding list_lines
-length-list x few = by-verdict x.answer.verdict
-  where
-    by-verdict :
-        (v : Verdict) →
-        length (decide refusal_line (head_line x.answer.version x.answer.written ++ entry_lines x.after x.answer.written) v) ≤ 9 * line_room
-    by-verdict Pass =
-        rw length-append
-        (omega (arith, length-head x.answer.version x.answer.written, length-entries x.after x.answer.written))
-    by-verdict (Refuse r) = omega (arith, length-refusal r)
+pub length-list :
+    (b : Buffers) (answer : Result Listed Refusal) → IfOk answer (λ x. x.written ≤ slot_count) → length (lines_after b answer) ≤ 9 * line_room
+unfolding lines_after
+length-list b (Ok x) few = rw length-append (omega (arith, length-head x.version x.written, length-entries b x.written, few))
+length-list b (Err r) few = omega (arith, length-refusal r)

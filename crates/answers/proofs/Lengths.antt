@@ -1,4 +1,5 @@
 -- The lengths of numbers and of lines, at most.
+use Rattle.std.proofs.Common.{Result, Ok, Err}
 use Prim.Native.Nat.{ℕ, zero, suc, ◌+◌, ◌-◌, ◌*◌, ◌/◌, ◌%◌, ◌^◌, ◌≤◌}
 use mathlib.Core.Path.{◌≡◌, refl}
 use mathlib.Core.Bool.{Bool, true, false, cond}
@@ -10,13 +11,10 @@ use Rattle.words.specs.Number.{le_at}
 use Rattle.words.specs.Splice.{part}
 use Rattle.words.specs.Text.{ascii}
 use Rattle.records.specs.Limits.{name_max}
-use Rattle.records.specs.Refusal.{number_of}
-use Rattle.records.specs.Verdict.{decide}
+use Rattle.records.specs.Refusal.{number_of, Verdict}
 use Rattle.records.specs.declared.refusal.Place.{Place}
 use Rattle.records.specs.declared.refusal.Place.TheVariants.{Nowhere, Section, Entry, Record}
 use Rattle.records.specs.declared.refusal.Refusal.{Refusal}
-use Rattle.records.specs.declared.refusal.Verdict.{Verdict}
-use Rattle.records.specs.declared.refusal.Verdict.TheVariants.{Pass, Refuse}
 use Rattle.queries.specs.declared.get.Got.{Got}
 use Rattle.listing.specs.List.{Buffers}
 use Rattle.script.specs.Decimal.{digits_up_to, digits_max, decimal}
@@ -97,13 +95,10 @@ length-entry b j =
 
 pub length-verdict : (v : Verdict) → length (verdict_line v) ≤ line_room
 unfolding verdict_line
-length-verdict Pass = omega arith
-length-verdict (Refuse r) = length-refusal r
+length-verdict (Ok _) = omega arith
+length-verdict (Err r) = length-refusal r
 
-pub length_got : (g : Got) → length (got_line g) ≤ line_room
+pub length_got : (answer : Result Got Refusal) → length (got_line answer) ≤ line_room
 unfolding got_line
-length_got g = by-verdict g.verdict
-  where
-    by-verdict : (v : Verdict) → length (decide refusal_line (status_line g.status g.result) v) ≤ line_room
-    by-verdict Pass = omega (arith, length-status g.status g.result)
-    by-verdict (Refuse r) = length-refusal r
+length_got (Ok g) = omega (arith, length-status g.status g.result)
+length_got (Err r) = length-refusal r

@@ -1,18 +1,18 @@
 -- W2: the lines that the console answers with, "each ended by a line feed".
-use Rattle.std.specs.Prelude.{ℕ, ◌+◌, ◌-◌, ◌*◌, ◌^◌, cond, List, [], ◌∷◌, ◌++◌, eqb, ltb, take}
+use Rattle.std.specs.Prelude.{ℕ, ◌+◌, ◌-◌, ◌*◌, ◌^◌, cond, List, [], ◌∷◌, ◌++◌, eqb, ltb, take, Result, Ok, Err}
 use Rattle.words.specs.Number.{le_at}
 use Rattle.words.specs.Scan.{scan}
 use Rattle.words.specs.Splice.{part}
 use Rattle.words.specs.Text.{ascii}
 use Rattle.records.specs.Limits.{name_max}
-use Rattle.records.specs.Refusal.{number_of}
+use Rattle.records.specs.Refusal.{number_of, Verdict}
 use Rattle.records.specs.Verdict.{decide}
 use Rattle.records.specs.declared.refusal.Place.{Place}
 use Rattle.records.specs.declared.refusal.Place.TheVariants.{Nowhere, Section, Entry, Record}
 use Rattle.records.specs.declared.refusal.Refusal.{Refusal}
-use Rattle.records.specs.declared.refusal.Verdict.{Verdict}
 use Rattle.queries.specs.declared.get.Got.{Got}
 use Rattle.listing.specs.List.{Buffers, Listing}
+use Rattle.listing.specs.declared.Listed.{Listed}
 use Rattle.script.specs.Decimal.{decimal}
 use Rattle.script.specs.Fields.{space}
 
@@ -52,8 +52,9 @@ unfoldable pub status_line : ℕ → ℕ → List ℕ
 status_line status result = ended (status_word status ++ (space ∷ []) ++ integer result)
 
 -- what get answers
-unfoldable pub got_line : Got → List ℕ
-got_line g = decide refusal_line (status_line g.status g.result) g.verdict
+unfoldable pub got_line : Result Got Refusal → List ℕ
+got_line (Ok g) = status_line g.status g.result
+got_line (Err r) = refusal_line r
 
 -- "`version 1 count 1`"
 unfoldable pub head_line : ℕ → ℕ → List ℕ
@@ -71,6 +72,9 @@ unfoldable pub entry_lines : Buffers → ℕ → List ℕ
 entry_lines b n = scan (λ j rest. entry_line b j ++ rest) [] 0 n
 
 -- "List writes a head line and one line per payload"
-unfoldable pub list_lines : Listing → List ℕ
-list_lines x =
-    decide refusal_line (head_line x.answer.version x.answer.written ++ entry_lines x.after x.answer.written) x.answer.verdict
+unfoldable pub lines_after : Buffers → Result Listed Refusal → List ℕ
+lines_after b (Ok x) = head_line x.version x.written ++ entry_lines b x.written
+lines_after b (Err r) = refusal_line r
+
+abbrev pub list_lines : Listing → List ℕ
+list_lines x = lines_after x.after x.answer

@@ -15,7 +15,7 @@ ghost use Rattle.answers.specs.Written.{written, writing, line_room};
 
 use super::{numbers, pieces};
 use queries::get::Got;
-use records::refusal::{Place, Refusal, Verdict};
+use records::refusal::{Place, Refusal};
 
 pub fn bad_line(out: &mut [u8], at: usize, n: u64) -> usize
     requires { at + line_room ≤ length out.old }
@@ -63,13 +63,13 @@ pub(crate) fn refusal(out: &mut [u8], at: usize, r: Refusal) -> usize
     pieces::byte(out, second, b'\n')
 }
 
-pub fn verdict(out: &mut [u8], at: usize, verdict: Verdict) -> usize
+pub fn verdict(out: &mut [u8], at: usize, verdict: Result<(), Refusal>) -> usize
     requires { at + line_room ≤ length out.old }
     ensures { written out.new result ≡ writing out.old at (verdict_line verdict) }
 {
     match verdict {
-        Verdict::Pass => pieces::text(out, at, b"ok\n"),
-        Verdict::Refuse(r) => refusal(out, at, r),
+        Ok(()) => pieces::text(out, at, b"ok\n"),
+        Err(r) => refusal(out, at, r),
     }
 }
 
@@ -93,13 +93,12 @@ pub(crate) fn status(out: &mut [u8], at: usize, status: u32, res: u32) -> usize
     pieces::byte(out, number, b'\n')
 }
 
-pub fn got(out: &mut [u8], at: usize, got: Got) -> usize
+pub fn got(out: &mut [u8], at: usize, answer: Result<Got, Refusal>) -> usize
     requires { at + line_room ≤ length out.old }
-    ensures { written out.new result ≡ writing out.old at (got_line got) }
+    ensures { written out.new result ≡ writing out.old at (got_line answer) }
 {
-    let verdict = got.verdict;
-    match verdict {
-        Verdict::Pass => status(out, at, got.status, got.result),
-        Verdict::Refuse(r) => refusal(out, at, r),
+    match answer {
+        Ok(got) => status(out, at, got.status, got.result),
+        Err(r) => refusal(out, at, r),
     }
 }

@@ -1,5 +1,5 @@
 // The answer of list: a head line, and one line per payload.
-ghost use Rattle.std.specs.Prelude.{◌≡◌, ◌++◌, ◌+◌, ◌-◌, ◌*◌, ◌≤◌, min, length, take};
+ghost use Rattle.std.specs.Prelude.{◌≡◌, ◌++◌, ◌+◌, ◌-◌, ◌*◌, ◌≤◌, min, length, take, IfOk};
 ghost use Rattle.words.specs.Number.{le_at};
 ghost use Rattle.words.specs.Splice.{part};
 ghost use Rattle.records.specs.Limits.{name_max};
@@ -11,7 +11,7 @@ ghost use Rattle.answers.specs.Written.{written, writing, line_room};
 use super::{lines, numbers, pieces};
 use listing::Listed;
 use records::payload::Payload;
-use records::refusal::Verdict;
+use records::refusal::Refusal;
 
 fn head(out: &mut [u8], at: usize, version: u32, count: u32) -> usize
     requires { at + line_room ≤ length out.old }
@@ -85,10 +85,8 @@ fn entries(
         (entry_lines (buffers statuses.now names.now lengths.now) n) }
 {
     let mut end = at;
-    let mut j = 0;
-    while j < n {
+    for j in 0..n {
         end = entry(out, end, j, statuses, names, lengths);
-        j += 1;
     }
     end
 }
@@ -116,27 +114,26 @@ fn accepted(
 pub fn listed(
     out: &mut [u8],
     at: usize,
-    answer: Listed,
+    answer: Result<Listed, Refusal>,
     statuses: &[u8],
     names: &[u8],
     lengths: &[u8],
 ) -> usize
-    requires line_room_in_bounds { (at + 9 * line_room ≤ length out.old) × (answer.written ≤ slot_count) }
+    requires line_room_in_bounds { (at + 9 * line_room ≤ length out.old) × (IfOk answer (λ x. x.written ≤ slot_count)) }
     requires slot_count_in_bounds { (8 * slot_count ≤ length statuses.now) × (name_max * slot_count ≤ length names.now) × (4 * slot_count ≤ length lengths.now) }
     ensures { written out.new result ≡ writing out.old at
         (list_lines (listing answer (buffers statuses.now names.now lengths.now))) }
 {
-    let verdict = answer.verdict;
-    match verdict {
-        Verdict::Pass => accepted(
+    match answer {
+        Ok(listed) => accepted(
             out,
             at,
-            answer.version,
-            answer.written,
+            listed.version,
+            listed.written,
             statuses,
             names,
             lengths,
         ),
-        Verdict::Refuse(r) => lines::refusal(out, at, r),
+        Err(r) => lines::refusal(out, at, r),
     }
 }

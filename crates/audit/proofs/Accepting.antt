@@ -1,5 +1,7 @@
 -- All that `prepare_payload` promises follows of the equation: 0 is returned exactly when the payload and all that comes with it are
 -- right, and bytes of ignored contents change nothing.
+use Rattle.records.specs.Refusal.{Verdict}
+use Rattle.std.proofs.Common.{Ok, Err}
 use Prim.Native.Nat.{ℕ}
 use mathlib.Core.Path.{◌≡◌, refl, sym, ap, subst⁻¹, ◌∙◌}
 use mathlib.Core.Bool.{Bool, true, false, and-false, false≢true}
@@ -10,8 +12,6 @@ use lib.Dec.{leb}
 use Rattle.words.proofs.Tests.{both}
 use Rattle.records.specs.Verdict.{must, decide}
 use Rattle.records.specs.declared.refusal.Place.TheVariants.{Nowhere}
-use Rattle.records.specs.declared.refusal.Verdict.{Verdict}
-use Rattle.records.specs.declared.refusal.Verdict.TheVariants.{Pass, Refuse}
 use Rattle.records.proofs.Checks.{must-pass, then-pass}
 use Rattle.records.proofs.Numbers.{code-some}
 use Rattle.machine.specs.Host.{text_max}
@@ -44,7 +44,7 @@ module _ (t : Setting) (file : List ℕ) (b : Buffers) where
       by-test true e = e
       by-test false e = absurd (false≢true (simp (e, and-false) at ranges))
 
-  passed : call_rules t file b ≡ Pass → Acceptable t file b
+  passed : call_rules t file b ≡ Ok tt → Acceptable t file b
   unfolding call_rules prepare_rules
   passed pass =
       let first = then-pass _ _ pass in
@@ -57,14 +57,14 @@ module _ (t : Setting) (file : List ℕ) (b : Buffers) where
         payload = (exact t file).accepted (then-pass (must (sizes_ok t b.image) 22 Nowhere) (payload_rules t file) second.1).1;
       }
 
-  passing : Acceptable t file b → call_rules t file b ≡ Pass
+  passing : Acceptable t file b → call_rules t file b ≡ Ok tt
   unfolding call_rules prepare_rules
   passing a = rw (a.buffers, a.ranges, a.listed, sized a.buffers a.ranges) ((exact t file).kept a.payload)
 
   -- no refusal's number is 0
-  zero-passes : (v : Verdict) → (decide (refused_call b) (accepted_call t file) v).answer ≡ 0 → v ≡ Pass
-  zero-passes Pass e = refl
-  zero-passes (Refuse r) e = absurd (code-some r e)
+  zero-passes : (v : Verdict) → (decide (refused_call b) (accepted_call t file) v).answer ≡ 0 → v ≡ Ok tt
+  zero-passes (Ok _) e = refl
+  zero-passes (Err r) e = absurd (code-some r e)
 
   zero-exactly : ((call_of t file b).answer ≡ 0) ↔ Acceptable t file b
   unfolding call_of

@@ -1,4 +1,6 @@
 -- `prepare_payload` by what its stages answered, and that the edits of an accepted payload fit their entries.
+use Rattle.records.specs.Refusal.{Verdict}
+use Rattle.std.proofs.Common.{Result, Ok, Err}
 use Prim.Native.Nat.{ℕ, ◌+◌, ◌≤◌, ◌<◌, ◌^◌}
 use mathlib.Core.Path.{◌≡◌, refl, ◌∙◌}
 use mathlib.Core.Bool.{Bool, true, false, ◌&&◌, and-false, false≢true}
@@ -10,11 +12,10 @@ use lib.ListN.{get_or}
 use Rattle.words.proofs.Tests.{both}
 use Rattle.records.specs.Limits.{records_max, placed_max}
 use Rattle.records.specs.Payload.{no_edit}
-use Rattle.records.specs.Verdict.{refusal, must, ◌then◌, decide}
+use Rattle.records.specs.Verdict.{refusal, must, ◌then◌, decide, verdict_of}
 use Rattle.records.specs.declared.refusal.Reason.TheVariants.{Invalid}
 use Rattle.records.specs.declared.refusal.Place.TheVariants.{Nowhere}
-use Rattle.records.specs.declared.refusal.Verdict.{Verdict}
-use Rattle.records.specs.declared.refusal.Verdict.TheVariants.{Pass, Refuse}
+use Rattle.records.specs.declared.refusal.Refusal.{Refusal}
 use Rattle.records.proofs.Checks.{then-pass, rules-told, answer-told}
 use Rattle.machine.specs.declared.host.Host.{Host}
 use Rattle.symbols.specs.SymbolList.{valid}
@@ -24,6 +25,7 @@ use Rattle.functions.proofs.FunctionLaws.{Made, edits-made, bytes-short, edit-ad
 use Rattle.encode.specs.Encode.{Fitting, edit_table, edits_size, summary_of, summary_size}
 use Rattle.acceptance.specs.Stages.{Setting, machine_at, records_start, record_count, patching_of, build_rules}
 use Rattle.prepare.specs.Prepare.{Outcome, sizes_ok, prepare_rules, accepted_prepared, prepare_of}
+use Rattle.prepare.specs.declared.prepare.Prepared.{Prepared}
 use Rattle.prepare.proofs.BuildLaws.{build-passes}
 use Rattle.prepare.proofs.OutcomeLaws.{outcome_by, outcome-told}
 use Rattle.audit.specs.Preparing.{
@@ -46,20 +48,23 @@ use Rattle.audit.specs.Preparing.{
 abbrev pub right_call : Setting → Buffers → Bool
 right_call t b = buffers_ok b && ranges_ok t.host
 
--- what an accepted payload leaves, of the outcome of its preparation
-abbrev pub written_of : Setting → Outcome → Left
-written_of t o =
-    let p = o.answer in
+-- what an accepted payload leaves, of what was prepared of it and the slot's bytes
+abbrev pub written_of : Setting → Prepared → List ℕ → Left
+written_of t p image =
     left 0
-    (buffers o.image (edit_table (machine_at t) t.host.text p.edits p.edit_count)
+    (buffers image (edit_table (machine_at t) t.host.text p.edits p.edit_count)
     (summary_of p.placed p.edit_count p.id p.dependency))
+
+-- what is left, of the outcome of the preparation
+abbrev pub left_by : Setting → Buffers → Result Prepared Refusal → List ℕ → Left
+left_by t b (Ok p) image = written_of t p image
+left_by t b (Err r) image = refused_call b r
 
 module _ (t : Setting) (b : Buffers) where
   -- the call, where the preparation has this outcome
   abbrev pub call_from : Outcome → Left
   call_from o =
-      decide (refused_call b) (written_of t o)
-      (must (right_call t b) 22 Nowhere then must (valid t.list) 22 Nowhere then o.answer.verdict)
+      decide (refused_call b) (left_by t b o.answer o.image) (must (right_call t b) 22 Nowhere then must (valid t.list) 22 Nowhere)
 
   -- it looks at the file through the preparation alone
   pub call-by-outcome : (file : List ℕ) → call_of t file b ≡ call_from (prepare_of t file b.image)
@@ -69,12 +74,12 @@ module _ (t : Setting) (b : Buffers) where
       by-verdict :
           (right listed : Bool) (v : Verdict) →
           decide (refused_call b) (accepted_call t file) (must right 22 Nowhere then must listed 22 Nowhere then v)
-          ≡ decide (refused_call b) (written_of t (outcome_by t file b.image v))
-          (must right 22 Nowhere then must listed 22 Nowhere then (outcome_by t file b.image v).answer.verdict)
+          ≡ decide (refused_call b) (left_by t b (outcome_by t file b.image v).answer (outcome_by t file b.image v).image)
+          (must right 22 Nowhere then must listed 22 Nowhere)
       by-verdict false listed v = refl
       by-verdict true false v = refl
-      by-verdict true true Pass = refl
-      by-verdict true true (Refuse r) = refl
+      by-verdict true true (Ok _) = refl
+      by-verdict true true (Err r) = refl
 
   module _ (file : List ℕ) where
     pub wrong-call : right_call t b ≡ false → call_of t file b ≡ refused_call b (refusal Invalid Nowhere)
@@ -87,24 +92,24 @@ module _ (t : Setting) (b : Buffers) where
 
     -- sizes, ranges and list are right: the payload decides
     module _ (right : right_call t b ≡ true) (listed : valid t.list ≡ true) {o : Outcome} (prepared : o ≡ prepare_of t file b.image) where
-      pub by-payload : {v : Verdict} → o.answer.verdict ≡ v → call_of t file b ≡ decide (refused_call b) (written_of t o) v
-      by-payload told = call-by-outcome file ∙ rw (← prepared, right, listed, told)
+      pub by-payload : call_of t file b ≡ left_by t b o.answer o.image
+      by-payload = call-by-outcome file ∙ rw (← prepared, right, listed)
 
 -- ---- the preparation has this outcome
 
 module _ (t : Setting) (file image : List ℕ) {o : Outcome} (e : o ≡ prepare_of t file image) where
-  pub prepare-rules : {v : Verdict} → o.answer.verdict ≡ v → prepare_rules t file image ≡ v
+  pub prepare-rules : {v : Verdict} → verdict_of o.answer ≡ v → prepare_rules t file image ≡ v
   unfolding prepare_of
   prepare-rules h = rules-told _ _ _ (outcome-told t file image) _ _ e h
 
-  pub outcome-is : {v : Verdict} → o.answer.verdict ≡ v → o ≡ outcome_by t file image v
+  pub outcome-is : {v : Verdict} → verdict_of o.answer ≡ v → o ≡ outcome_by t file image v
   unfolding prepare_of
   outcome-is h = answer-told _ _ _ (outcome-told t file image) (prepare_rules t file image) _ e h
 
 -- ---- the edits of an accepted payload
 
-module _ (t : Setting) (file image : List ℕ) (pass : prepare_rules t file image ≡ Pass) where
-  stages : (read_rules (machine_at t) file ≡ Pass) × (build_rules t file ≡ Pass)
+module _ (t : Setting) (file image : List ℕ) (pass : prepare_rules t file image ≡ Ok tt) where
+  stages : (read_rules (machine_at t) file ≡ Ok tt) × (build_rules t file ≡ Ok tt)
   unfolding prepare_rules
   stages = then-pass (read_rules (machine_at t) file) (build_rules t file) (then-pass (must (sizes_ok t image) 22 Nowhere) _ pass).1
 

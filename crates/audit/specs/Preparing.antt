@@ -1,11 +1,10 @@
 -- What `prepare_payload` returns, and what it leaves in its three buffers.
 use Rattle.std.specs.Prelude.{ℕ, ◌+◌, ◌%◌, ◌^◌, ◌≡◌, Bool, true, ◌&&◌, ◌||◌, ◌↔◌, List, leb, eqb, length}
 use Rattle.records.specs.Limits.{placed_max}
-use Rattle.records.specs.Refusal.{refusal_code}
+use Rattle.records.specs.Refusal.{refusal_code, Verdict}
 use Rattle.records.specs.Verdict.{must, ◌then◌, decide}
 use Rattle.records.specs.declared.refusal.Place.TheVariants.{Nowhere}
 use Rattle.records.specs.declared.refusal.Refusal.{Refusal}
-use Rattle.records.specs.declared.refusal.Verdict.{Verdict}
 use Rattle.machine.specs.Host.{text_max}
 use Rattle.machine.specs.declared.host.Host.{Host}
 use Rattle.machine.specs.declared.processor.Processor.TheVariants.{X86_64}

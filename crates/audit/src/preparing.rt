@@ -6,7 +6,7 @@ ghost use Rattle.audit.specs.Preparing.{host_of, is_apart, ranges_ok, buffer_siz
 use machine::host::Host;
 use machine::processor::Processor;
 use records::payload::Payload;
-use records::refusal::{Place, Reason, Verdict};
+use records::refusal::{Place, Reason, Refusal};
 
 // A slot's address is a multiple of it.
 const SLOT_ALIGN: u64 = 4096;
@@ -79,7 +79,7 @@ pub fn prepare_payload(
         text_length: size,
         slot,
     };
-    let bad = Verdict::refused(Reason::Invalid, Place::Nowhere);
+    let bad = Refusal::new(Reason::Invalid, Place::Nowhere);
     if !buffer_sizes_ok(image.len(), edits.len(), summary.len()) {
         return bad.code();
     }
@@ -89,11 +89,10 @@ pub fn prepare_payload(
     if !symbols::is_valid(list) {
         return bad.code();
     }
-    let prepared = prepare::prepare::prepare(file, list, host, image);
-    let verdict = prepared.verdict;
-    if let Verdict::Refuse(r) = verdict {
-        return r.code();
-    }
+    let prepared = match prepare::prepare::prepare(file, list, host, image) {
+        Ok(prepared) => prepared,
+        Err(r) => return r.code(),
+    };
     let made = prepared.edits;
     let count = prepared.edit_count;
     encode::write_edits(edits, host, made, count);

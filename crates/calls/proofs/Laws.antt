@@ -3,12 +3,11 @@ use Prim.Native.Nat.{ℕ}
 use mathlib.Core.Path.{◌≡◌, sym, subst, ◌∙◌}
 use mathlib.Core.Bool.{true, false, false≢true}
 use mathlib.Core.List.{List}
-use Rattle.records.specs.Refusal.{refusal_code, verdict_code}
+use Rattle.records.specs.Refusal.{refusal_code, verdict_code, Verdict}
 use Rattle.records.specs.Verdict.{refusal}
 use Rattle.records.specs.declared.refusal.Place.TheVariants.{Nowhere}
 use Rattle.records.specs.declared.refusal.Reason.TheVariants.{Invalid}
 use Rattle.records.specs.declared.refusal.Refusal.{Refusal}
-use Rattle.records.specs.declared.refusal.Verdict.{Verdict}
 use Rattle.state.specs.declared.state.State.{State}
 use Rattle.state_bytes.specs.Stored.{is_state, HoldsState}
 use Rattle.calls.specs.Told.{Told, told, invalid, stored, over_records, RecordsKept}

@@ -1,10 +1,9 @@
 -- What a call over the records buffer returns and leaves: 0 or the refusal in one number, the records, and the memory that it was lent besides.
 use Rattle.std.specs.Prelude.{ℕ, ◌≡◌, true, cond, List}
-use Rattle.records.specs.Refusal.{refusal_code, verdict_code}
+use Rattle.records.specs.Refusal.{refusal_code, verdict_code, Verdict}
 use Rattle.records.specs.Verdict.{refusal}
 use Rattle.records.specs.declared.refusal.Place.TheVariants.{Nowhere}
 use Rattle.records.specs.declared.refusal.Reason.TheVariants.{Invalid}
-use Rattle.records.specs.declared.refusal.Verdict.{Verdict}
 use Rattle.state.specs.declared.state.State.{State}
 use Rattle.state_bytes.specs.Stored.{bytes_of, is_state, HoldsState}
 

@@ -5,7 +5,7 @@ ghost use Rattle.state_bytes.specs.Stored.{state_in};
 ghost use Rattle.calls.specs.Changes.{report_told, tick_told};
 ghost use Rattle.calls.specs.Told.{told, RecordsKept};
 
-use records::refusal::{Place, Reason, Refusal};
+use records::refusal::{self, Place, Reason, Refusal};
 use report_in_place::reporting;
 use state_bytes::buffer;
 
@@ -18,7 +18,7 @@ pub fn report(records: &mut [u8], cpu: u32) -> u64
         return Refusal::new(Reason::Invalid, Place::Nowhere).code();
     }
     let verdict = reporting::report(records, cpu);
-    verdict.code()
+    refusal::code(verdict)
 }
 
 // One tick of the time that a job has to gather the CPUs.
@@ -30,5 +30,5 @@ pub fn tick(records: &mut [u8]) -> u64
         return Refusal::new(Reason::Invalid, Place::Nowhere).code();
     }
     let verdict = reporting::tick(records);
-    verdict.code()
+    refusal::code(verdict)
 }

@@ -5,7 +5,7 @@ ghost use Rattle.state_bytes.specs.Stored.{state_in};
 ghost use Rattle.calls.specs.Changes.{work_told};
 ghost use Rattle.calls.specs.Told.{told, RecordsKept};
 
-use records::refusal::{Place, Reason, Refusal};
+use records::refusal::{self, Place, Reason, Refusal};
 use state_bytes::buffer;
 
 // The job's next edit is made; its last one ends the job.
@@ -19,5 +19,5 @@ pub fn work(records: &mut [u8], text: &mut [u8], undo: &mut [u8]) -> u64
         return Refusal::new(Reason::Invalid, Place::Nowhere).code();
     }
     let verdict = work_in_place::working::work(records, text, undo);
-    verdict.code()
+    refusal::code(verdict)
 }

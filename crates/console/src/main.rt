@@ -163,12 +163,10 @@ fn run_bytes(
         line.new out.new }
 {
     let mut run = start;
-    let mut i = 0;
-    while i < bytes.len() {
+    for b in bytes {
         run = run_byte(
-            streams, run, text, arena, undo, ids, id, name, list, file, line, out, bytes[i],
+            streams, run, text, arena, undo, ids, id, name, list, file, line, out, *b,
         );
-        i += 1;
     }
     run
 }
@@ -223,7 +221,7 @@ fn serve_some(
     }
 }
 
-// Nothing says that the input ends, so the reads are counted down, from a number that no run uses up. A last line may lack its line feed.
+// Nothing says that the input ends, so the reads are counted, up to a number that no run reaches. A last line may lack its line feed.
 fn serve(
     streams: &mut Streams,
     text: &mut [u8],
@@ -251,15 +249,13 @@ fn serve(
         },
         more: true,
     };
-    let mut turns = u64::MAX;
-    while turns > 0 {
+    for _ in 0..u64::MAX {
         if !served.more || streams.has_failed() {
             break;
         }
         served = serve_some(
             streams, served.run, text, arena, undo, ids, id, name, list, file, line, out, input,
         );
-        turns -= 1;
     }
     let last = served.run;
     if last.held > 0 {

@@ -24,8 +24,6 @@ ghost use Rattle.elf.specs.Ranges.{
   NoteRanges,
 };
 
-use words::bytes::Found;
-
 // The bytes of each.
 pub const FILE_HEADER_SIZE: usize = 64;
 
@@ -174,7 +172,7 @@ pub fn read_note(contents: &[u8]) -> Note
 }
 
 // Where the name that begins at `offset` of a string table ends: at its first zero within the table.
-pub fn name_end(table: &[u8], offset: u64) -> Found
+pub fn name_end(table: &[u8], offset: u64) -> Option<usize>
     ensures { result ≡ zero_from table.now offset }
 {
     words::bytes::find_zero(table, offset as usize)

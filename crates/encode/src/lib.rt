@@ -36,15 +36,13 @@ pub fn write_edits(buffer: &mut [u8], host: Host, edits: [Edit; Payload::RECORDS
         edits count }
     ensures { buffer.new ≡ edit_table (host_machine host) host.text edits count }
 {
-    let mut r = 0;
-    while r < Payload::RECORDS_MAX {
+    for r in 0..Payload::RECORDS_MAX {
         if r < count {
             let edit = edits[r];
             write_entry(buffer, ENTRY_SIZE * r, host, edit);
         } else {
             words::bytes::fill(buffer, ENTRY_SIZE * r, ENTRY_SIZE, 0);
         }
-        r += 1;
     }
 }
 

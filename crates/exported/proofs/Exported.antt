@@ -109,7 +109,7 @@ turn-follows l (by_get κs records text arena undo ids build_id name out r out' 
     let b = records.now in
     let g = get_of (state_in b) name.now in
     let agreed = turn-agrees l (sequence.by_get ([], tt) _ name g refl) k.stands sound in (
-      get-fills b k.records name.now out.now g refl learnt
+      get-fills b k.records name.now out.now learnt
           ∙ ap
           (λ (reply : model.Reply).
           cond (eqb (length out.now) get_size) (Fills (number_for reply) (out_for out.now reply)) (Fills invalid out.now))
@@ -137,7 +137,7 @@ turn-follows l (by_list κs records text arena undo ids build_id idx nr statuses
     refl)
     k.stands
     sound in (
-      list-fills b k.records idx nr given out.now x refl learnt
+      list-fills b k.records idx nr given out.now learnt
           ∙ ap
           (λ (reply : model.Reply).
           cond (eqb (length out.now) list_size)

@@ -1,4 +1,5 @@
 -- What the exported functions return, by what the calls on the state answered.
+use Rattle.std.proofs.Common.{Result, Ok, Err}
 use Prim.Native.Nat.{ℕ, suc}
 use mathlib.Core.Path.{◌≡◌, refl, ap, ◌∙◌}
 use mathlib.Core.Bool.{Bool, true, false, cond, ◌&&◌}
@@ -7,23 +8,24 @@ use native.Mathlib.Omega.{arith}
 use borrow.Author.Tests.{eq-eqb, ne_eqb}
 use lib.Dec.{eqb}
 use lib.ListN.{length}
-use Rattle.records.specs.Refusal.{refusal_code, verdict_code}
-use Rattle.records.specs.Verdict.{decide}
-use Rattle.records.specs.declared.refusal.Verdict.{Verdict}
-use Rattle.records.specs.declared.refusal.Verdict.TheVariants.{Pass, Refuse}
+use Rattle.records.specs.Refusal.{verdict_code, Verdict}
+use Rattle.records.specs.declared.refusal.Refusal.{Refusal}
 use Rattle.state.specs.declared.state.State.{State}
 use Rattle.state_bytes.specs.Stored.{state_in, is_state}
 use Rattle.queries.specs.Get.{get_of}
 use Rattle.queries.specs.TopId as top
 use Rattle.queries.specs.declared.get.Got.{Got}
 use Rattle.listing.specs.List as list
-use Rattle.questions.specs.Questions.{Asked, asked, right_buffers, get_size, got_bytes, get_asked, list_size, listed_bytes, ListAsked, list_asking, list_asked, top_size, place_bytes, top_asked}
+use Rattle.listing.specs.declared.Listed.{Listed}
+use Rattle.questions.specs.Questions.{Asked, asked, right_buffers, get_size, get_answer, get_asked, list_size, listed_answer, list_answer, ListAsked, list_asking, list_asked, top_size, place_bytes, top_asked}
 use Rattle.calls.specs.Told.{Told, told, invalid, stored, over_records}
 use Rattle.model.specs.Calls as model
 use Rattle.model.specs.Model.{Model}
+use Rattle.refinement.specs.Replies.{tells_of, lists_of}
 use Rattle.refinement.specs.Stands.{Loader, record_of, Stands}
 use Rattle.refinement.proofs.Lookups.{payload-in, top-slot}
-use Rattle.exported.specs.Calls.{Reply, Fills, FillsList, top_place_over, top_place_of}
+use Rattle.refinement.proofs.Queries.{listing_reply}
+use Rattle.exported.specs.Calls.{Reply, Fills, FillsList, number_for, out_for, buffers_for, top_place_over, top_place_of}
 
 -- ---- a call that changes the state, on records that are a state's
 
@@ -44,12 +46,17 @@ plain_buffers b = record { statuses = b.statuses; names = b.names; lengths = b.l
 abbrev fills_list_of : ListAsked → Reply
 fills_list_of x = FillsList x.asked.answer x.asked.out (plain_buffers x.buffers)
 
--- a verdict decides what is returned and what the out buffer holds
-fills-by :
-    (v : Verdict) (out bytes : List ℕ) →
-    fills_of (decide (λ r. asked (refusal_code r) out) (asked 0 bytes) v) ≡ Fills (verdict_code v) (decide (λ r. out) bytes v)
-fills-by Pass out bytes = refl
-fills-by (Refuse r) out bytes = refl
+-- the answer decides what is returned and what the out buffer holds
+fills-got : (g : Result Got Refusal) (out : List ℕ) → fills_of (get_answer g out) ≡ Fills (number_for (tells_of g)) (out_for out (tells_of g))
+fills-got (Ok g) out = refl
+fills-got (Err r) out = refl
+
+fills-listed :
+    (after : list.Buffers) (x : Result Listed Refusal) (out : List ℕ) (b : model.Buffers) →
+    let reply : model.Reply = lists_of (plain_buffers after) x in
+    fills_list_of (list_asking (listed_answer x out) after) ≡ FillsList (number_for reply) (out_for out reply) (buffers_for b reply)
+fills-listed after (Ok x) out b = refl
+fills-listed after (Err r) out b = refl
 
 -- where the records are a state's, only the size of the out buffer is asked
 right_by : (b : List ℕ) (n size : ℕ) → is_state b ≡ true → right_buffers b n size ≡ eqb n size
@@ -61,53 +68,45 @@ right_by b n size whole = rw whole (and-true (eqb n size))
 
 module _ (b : List ℕ) (whole : is_state b ≡ true) where
   pub get-fills :
-      (name out : List ℕ) (g : Got) {answer : ℕ} {after : List ℕ} → g ≡ get_of (state_in b) name → asked answer after ≡ get_asked b name out →
-      Fills answer after
-      ≡ cond (eqb (length out) get_size) (Fills (verdict_code g.verdict) (decide (λ r. out) (got_bytes g) g.verdict)) (Fills invalid out)
+      (name out : List ℕ) {answer : ℕ} {after : List ℕ} → asked answer after ≡ get_asked b name out →
+      let reply : model.Reply = tells_of (get_of (state_in b) name) in
+      Fills answer after ≡ cond (eqb (length out) get_size) (Fills (number_for reply) (out_for out reply)) (Fills invalid out)
   unfolding get_asked
-  get-fills name out g e told-so = ap fills_of told-so ∙ rw (right_by b (length out) get_size whole, ← e) (by_size (eqb (length out) get_size))
+  get-fills name out told-so = ap fills_of told-so ∙ rw (right_by b (length out) get_size whole) (by_size (eqb (length out) get_size))
     where
+      g : Result Got Refusal
+      g = get_of (state_in b) name
+
       by_size :
           (t : Bool) →
-          fills_of (cond t (decide (λ r. asked (refusal_code r) out) (asked 0 (got_bytes g)) g.verdict) (asked invalid out))
-          ≡ cond t (Fills (verdict_code g.verdict) (decide (λ r. out) (got_bytes g) g.verdict)) (Fills invalid out)
-      by_size true = fills-by g.verdict out (got_bytes g)
+          fills_of (cond t (get_answer g out) (asked invalid out))
+          ≡ cond t (Fills (number_for (tells_of g)) (out_for out (tells_of g))) (Fills invalid out)
+      by_size true = fills-got g out
       by_size false = refl
 
   pub list-fills :
-      (idx nr : ℕ) (lent : list.Buffers) (out : List ℕ) (x : list.Listing) {answer : ℕ} {after : List ℕ} {buffers : list.Buffers} →
-      x ≡ list.list_of (state_in b) idx nr lent → list_asking (asked answer after) buffers ≡ list_asked b idx nr lent out →
+      (idx nr : ℕ) (lent : list.Buffers) (out : List ℕ) {answer : ℕ} {after : List ℕ} {buffers : list.Buffers} →
+      list_asking (asked answer after) buffers ≡ list_asked b idx nr lent out →
+      let reply : model.Reply = listing_reply (list.list_of (state_in b) idx nr lent) in
       FillsList answer after (plain_buffers buffers)
-      ≡ cond (eqb (length out) list_size)
-      (FillsList
-      (verdict_code x.answer.verdict)
-      (decide (λ r. out) (listed_bytes x.answer) x.answer.verdict)
-      (plain_buffers x.after))
+      ≡ cond (eqb (length out) list_size) (FillsList (number_for reply) (out_for out reply) (buffers_for (plain_buffers lent) reply))
       (FillsList invalid out (plain_buffers lent))
   unfolding list_asked
-  list-fills idx nr lent out x e told-so =
-      ap fills_list_of told-so ∙ rw (right_by b (length out) list_size whole, ← e) (by_size (eqb (length out) list_size))
+  list-fills idx nr lent out told-so =
+      ap fills_list_of told-so ∙ rw (right_by b (length out) list_size whole) (by_size (eqb (length out) list_size))
     where
-      by-verdict :
-          (v : Verdict) (bytes : List ℕ) (after : list.Buffers) →
-          fills_list_of (list_asking (decide (λ r. asked (refusal_code r) out) (asked 0 bytes) v) after)
-          ≡ FillsList (verdict_code v) (decide (λ r. out) bytes v) (plain_buffers after)
-      by-verdict Pass bytes after = refl
-      by-verdict (Refuse r) bytes after = refl
+      x : list.Listing
+      x = list.list_of (state_in b) idx nr lent
+
+      reply : model.Reply
+      reply = listing_reply x
 
       by_size :
           (t : Bool) →
-          fills_list_of
-          (cond t
-          (list_asking (decide (λ r. asked (refusal_code r) out) (asked 0 (listed_bytes x.answer)) x.answer.verdict) x.after)
-          (list_asking (asked invalid out) lent))
-          ≡ cond t
-          (FillsList
-          (verdict_code x.answer.verdict)
-          (decide (λ r. out) (listed_bytes x.answer) x.answer.verdict)
-          (plain_buffers x.after))
+          fills_list_of (cond t (list_answer x out) (list_asking (asked invalid out) lent))
+          ≡ cond t (FillsList (number_for reply) (out_for out reply) (buffers_for (plain_buffers lent) reply))
           (FillsList invalid out (plain_buffers lent))
-      by_size true = by-verdict x.answer.verdict (listed_bytes x.answer) x.after
+      by_size true = fills-listed x.after x.answer out (plain_buffers lent)
       by_size false = refl
 
   pub top-fills :

@@ -1,4 +1,5 @@
--- Every edit that a record becomes lies in the text and has as many bytes as it says; and the answer for all records holds their verdict.
+-- Every edit that a record becomes lies in the text and has as many bytes as it says.
+use Rattle.std.proofs.Common.{Ok, Err, Result, ℕ}
 use Prim.Native.Nat.{ℕ, ◌+◌, ◌-◌, ◌≤◌, ◌<◌, ◌^◌}
 use mathlib.Core.Path.{◌≡◌, refl}
 use mathlib.Core.Bool.{Bool, true, false, cond, ◌&&◌}
@@ -13,19 +14,14 @@ use Rattle.records.specs.Refusal.{reason_for}
 use Rattle.records.specs.declared.payload.Edit.{Edit}
 use Rattle.records.specs.declared.payload.EditKind.TheVariants.{Jump, Fill}
 use Rattle.records.specs.declared.refusal.Reason.{Reason}
-use Rattle.records.specs.declared.refusal.Verdict.TheVariants.{Pass}
-use Rattle.records.proofs.Checks.{then-pass, scan-passes, Told}
+use Rattle.records.proofs.Checks.{then-pass, scan-passes}
 use Rattle.machine.specs.Machine.{edit_bytes, edit_max}
 use Rattle.machine.proofs.Laws.{lawful, length-edit}
 use Rattle.functions.specs.Edits.{form_ok, in_text, addresses_ok, fill_ok, jump_ok, fill_edit, jump_edit, edit_from, edit_by, edit_of}
-use Rattle.functions.specs.Functions.{edit_at, edit_verdict, made_of, edits_of, function_rules, refused_functions, accepted_functions}
+use Rattle.functions.specs.Functions.{edit_at, edit_verdict, made_of, edits_of, function_rules}
 use Rattle.functions.specs.Patching.{Patching, machine_for}
 use Rattle.functions.specs.Records.{record_of, old_address_of}
-use Rattle.functions.specs.declared.edits.RecordEdit.{RecordEdit}
-use Rattle.functions.specs.declared.edits.RecordEdit.TheVariants.{Make, Fault}
 use Rattle.functions.specs.declared.function.FunctionRecord.{FunctionRecord}
-use Rattle.functions.specs.declared.function.OldAddress.{OldAddress}
-use Rattle.functions.specs.declared.function.OldAddress.TheVariants.{At, Refused}
 use Rattle.functions.proofs.RecordLaws.{lies, fill_holds, jump-holds}
 
 -- ---- an edit that is made
@@ -38,14 +34,14 @@ pub record Made (p : Patching) (e : Edit) : Type 0 where
   pub sized : length (edit_bytes (machine_for p) e) ≡ e.length
 
 -- a test that had to hold
-passed : {e : Edit} (t : Bool) (x : RecordEdit) (reason : Reason) → cond t x (Fault reason) ≡ Make e → (t ≡ true) × (x ≡ Make e)
+passed : {e : Edit} (t : Bool) (x : Result Edit Reason) (reason : Reason) → cond t x (Err reason) ≡ Ok e → (t ≡ true) × (x ≡ Ok e)
 passed true x reason h = (refl, h)
 passed false x reason h = let never : ◌≡◌ {A = ℕ} 0 1 = cc in absurd (omega arith)
 
 module _ (p : Patching) (at : ℕ) {e : Edit} where
   module _ (old : ℕ) (f : FunctionRecord) (h : in_text p old f ≡ true) where
     -- a fill, and a jump
-    fill-made : fill_ok p f ≡ true → fill_edit p old f ≡ Make e → Made p e
+    fill-made : fill_ok p f ≡ true → fill_edit p old f ≡ Ok e → Made p e
     fill-made g made =
         let fill : Edit = record { offset = old - p.host.text; length = f.new_size; kind = Fill } in
         let same : fill ≡ e = cc in
@@ -58,13 +54,13 @@ module _ (p : Patching) (at : ℕ) {e : Edit} where
           sized = (length-edit (lawful p.host.processor) fill).1 refl;
         }
 
-    jump-made : jump_ok p f ≡ true → jump_edit p old f ≡ Make e → Made p e
+    jump-made : jump_ok p f ≡ true → jump_edit p old f ≡ Ok e → Made p e
     unfolding jump_edit
     jump-made g made =
         let laws = lawful p.host.processor in
         let d = (machine_for p).displacement old f.new_addr in
         let jump : Edit = record { offset = old - p.host.text; length = (machine_for p).jump_length; kind = Jump d } in
-        let reached = (passed ((machine_for p).reaches d) (Make jump) (reason_for 34) made).1 in
+        let reached = (passed ((machine_for p).reaches d) (Ok jump) (reason_for 34) made).1 in
         let same : jump ≡ e = cc in
         let room = lies p.host.text p.host.text_length old f.old_size h in
         let size = jump-holds p f g in
@@ -79,25 +75,25 @@ module _ (p : Patching) (at : ℕ) {e : Edit} where
     kind-made :
         (fill : Bool) →
         cond fill
-        (cond (fill_ok p f) (fill_edit p old f) (Fault (reason_for 22)))
-        (cond (jump_ok p f) (jump_edit p old f) (Fault (reason_for 22)))
-        ≡ Make e →
+        (cond (fill_ok p f) (fill_edit p old f) (Err (reason_for 22)))
+        (cond (jump_ok p f) (jump_edit p old f) (Err (reason_for 22)))
+        ≡ Ok e →
         Made p e
     kind-made true made = let t = passed (fill_ok p f) _ _ made in fill-made t.0 t.1
     kind-made false made = let t = passed (jump_ok p f) _ _ made in jump-made t.0 t.1
 
   -- with the old address known, or none
-  address-made : (f : FunctionRecord) (o : OldAddress) → edit_by p at f o ≡ Make e → Made p e
+  address-made : (f : FunctionRecord) (o : Result ℕ Reason) → edit_by p at f o ≡ Ok e → Made p e
   unfolding edit_from
-  address-made f (At old) made =
+  address-made f (Ok old) made =
       let form = form_ok p.placed at f in
       let t = passed (form && in_text p old f && addresses_ok p old f) _ _ made in
       let inside = (both form (in_text p old f) (both (form && in_text p old f) (addresses_ok p old f) t.0).0).1 in
       kind-made old f inside (eqb f.new_addr 0) t.1
-  address-made f (Refused reason) made = let never : ◌≡◌ {A = ℕ} 0 1 = cc in absurd (omega arith)
+  address-made f (Err reason) made = let never : ◌≡◌ {A = ℕ} 0 1 = cc in absurd (omega arith)
 
   -- of the record at at
-  pub edit-made : edit_of p at ≡ Make e → Made p e
+  pub edit-made : edit_of p at ≡ Ok e → Made p e
   unfolding edit_of
   edit-made made = address-made (record_of p.placed at) (old_address_of p (record_of p.placed at)) made
 
@@ -113,17 +109,13 @@ module _ {p : Patching} {e : Edit} (made : Made p e) where
 -- ---- the edits of records that pass
 
 -- a record that passes has become an edit
-is_made : (e : RecordEdit) (r : ℕ) → edit_verdict e r ≡ Pass → e ≡ Make (made_of e)
-is_made (Make e) r h = refl
-is_made (Fault reason) r h = let never : ◌≡◌ {A = ℕ} 0 1 = cc in absurd (omega arith)
+is_made : (e : Result Edit Reason) (r : ℕ) → edit_verdict e r ≡ Ok tt → e ≡ Ok (made_of e)
+is_made (Ok e) r h = refl
+is_made (Err reason) r h = let never : ◌≡◌ {A = ℕ} 0 1 = cc in absurd (omega arith)
 
 module _ (p : Patching) (start n : ℕ) where
-  pub edits-made : function_rules p start n ≡ Pass → (r : ℕ) → r < n → Made p (get_or (edits_of p start n) r no_edit)
+  pub edits-made : function_rules p start n ≡ Ok tt → (r : ℕ) → r < n → Made p (get_or (edits_of p start n) r no_edit)
   unfolding function_rules
   edits-made h r g =
       let each = scan-passes (λ j. edit_verdict (edit_at p start j) j) 0 n (then-pass _ _ h).0 r (omega arith) (omega arith) in
       rw (get_or-filled (λ j. made_of (edit_at p start j)) no_edit records_max n r no_edit g) (edit-made p _ (is_made (edit_at p start r) r each))
-
-  -- the answer holds the verdict that decides it
-  pub functions-told : Told (λ f. f.verdict) refused_functions (accepted_functions p start n)
-  functions-told = record { refusing = λ r. refl; accepting = refl }

@@ -1,16 +1,14 @@
 -- Document 01, "Function records": when a record is right, and the edit that it asks for.
-use Rattle.std.specs.Prelude.{ℕ, ◌+◌, ◌-◌, Bool, cond, ◌&&◌, List, leb, eqb, length}
+use Rattle.records.specs.declared.payload.Edit.{Edit}
+use Rattle.records.specs.declared.refusal.Reason.{Reason}
+use Rattle.std.specs.Prelude.{ℕ, ◌+◌, ◌-◌, Bool, cond, ◌&&◌, List, leb, eqb, length, Ok, Err, Result}
 use Rattle.words.specs.Order.{all_zero}
 use Rattle.words.specs.Splice.{part}
 use Rattle.records.specs.Refusal.{reason_for}
 use Rattle.records.specs.declared.payload.EditKind.TheVariants.{Jump, Fill}
 use Rattle.functions.specs.Patching.{Patching, machine_for}
 use Rattle.functions.specs.Records.{record_of, old_address_of}
-use Rattle.functions.specs.declared.edits.RecordEdit.{RecordEdit}
-use Rattle.functions.specs.declared.edits.RecordEdit.TheVariants.{Make, Fault}
 use Rattle.functions.specs.declared.function.FunctionRecord.{FunctionRecord}
-use Rattle.functions.specs.declared.function.OldAddress.{OldAddress}
-use Rattle.functions.specs.declared.function.OldAddress.TheVariants.{At, Refused}
 
 -- size bytes from address on lie among count bytes that begin at start, by ordinary sums
 abbrev pub lies_in : ℕ → ℕ → ℕ → ℕ → Bool
@@ -40,30 +38,30 @@ abbrev pub addresses_ok : Patching → ℕ → FunctionRecord → Bool
 addresses_ok p old f = (machine_for p).address old && (machine_for p).address f.new_addr
 
 -- "The edit is e9 and new_addr - (old address + 5) in 4 bytes."; "34: a 4-byte value out of range"
-unfoldable pub jump_edit : Patching → ℕ → FunctionRecord → RecordEdit
+unfoldable pub jump_edit : Patching → ℕ → FunctionRecord → Result Edit Reason
 jump_edit p old f =
     let displacement = (machine_for p).displacement old f.new_addr in
     cond ((machine_for p).reaches displacement)
-    (Make (record { offset = old - p.host.text; length = (machine_for p).jump_length; kind = Jump displacement }))
-    (Fault (reason_for 34))
+    (Ok (record { offset = old - p.host.text; length = (machine_for p).jump_length; kind = Jump displacement }))
+    (Err (reason_for 34))
 
 -- "The edit is new_size bytes 90."
-abbrev pub fill_edit : Patching → ℕ → FunctionRecord → RecordEdit
-fill_edit p old f = Make (record { offset = old - p.host.text; length = f.new_size; kind = Fill })
+abbrev pub fill_edit : Patching → ℕ → FunctionRecord → Result Edit Reason
+fill_edit p old f = Ok (record { offset = old - p.host.text; length = f.new_size; kind = Fill })
 
 -- the record at at with its old address known: "all other 22, 34"
-unfoldable pub edit_from : Patching → ℕ → ℕ → FunctionRecord → RecordEdit
+unfoldable pub edit_from : Patching → ℕ → ℕ → FunctionRecord → Result Edit Reason
 edit_from p at old f =
     cond (form_ok p.placed at f && in_text p old f && addresses_ok p old f)
     (cond (eqb f.new_addr 0)
-    (cond (fill_ok p f) (fill_edit p old f) (Fault (reason_for 22)))
-    (cond (jump_ok p f) (jump_edit p old f) (Fault (reason_for 22))))
-    (Fault (reason_for 22))
+    (cond (fill_ok p f) (fill_edit p old f) (Err (reason_for 22)))
+    (cond (jump_ok p f) (jump_edit p old f) (Err (reason_for 22))))
+    (Err (reason_for 22))
 
-abbrev pub edit_by : Patching → ℕ → FunctionRecord → OldAddress → RecordEdit
-edit_by p at f (At old) = edit_from p at old f
-edit_by p at f (Refused reason) = Fault reason
+abbrev pub edit_by : Patching → ℕ → FunctionRecord → Result ℕ Reason → Result Edit Reason
+edit_by p at f (Ok old) = edit_from p at old f
+edit_by p at f (Err reason) = Err reason
 
 -- "records (name's 22, 3, all other 22, 34)": the edit of the record at at of the placed bytes
-unfoldable pub edit_of : Patching → ℕ → RecordEdit
+unfoldable pub edit_of : Patching → ℕ → Result Edit Reason
 edit_of p at = edit_by p at (record_of p.placed at) (old_address_of p (record_of p.placed at))

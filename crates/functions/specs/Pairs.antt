@@ -1,13 +1,11 @@
 -- Document 01: "The first pair of records whose edits touch a common byte refuses the payload, at the later record (lowest later record first)."
-use Rattle.std.specs.Prelude.{ℕ, ◌+◌, Bool, false, cond, ◌&&◌, ◌||◌, List, ltb, get_or}
+use Rattle.std.specs.Prelude.{ℕ, ◌+◌, Bool, false, cond, ◌&&◌, ◌||◌, List, ltb, get_or, Ok, Err}
 use Rattle.words.specs.Scan.{scan}
 use Rattle.records.specs.Payload.{no_edit}
 use Rattle.records.specs.Verdict.{refusal}
 use Rattle.records.specs.declared.payload.Edit.{Edit}
-use Rattle.records.specs.Refusal.{reason_for}
+use Rattle.records.specs.Refusal.{reason_for, Verdict}
 use Rattle.records.specs.declared.refusal.Place.TheVariants.{Record}
-use Rattle.records.specs.declared.refusal.Verdict.{Verdict}
-use Rattle.records.specs.declared.refusal.Verdict.TheVariants.{Pass, Refuse}
 
 abbrev pub edit_in : List Edit → ℕ → Edit
 edit_in es i = get_or es i no_edit
@@ -25,7 +23,7 @@ touched es b n = scan (one_touch es b) false 0 n
 
 -- record j touches an earlier one, or else what the later records give
 abbrev pub one_pair : List Edit → ℕ → Verdict → Verdict
-one_pair es j rest = cond (touched es (edit_in es j) j) (Refuse (refusal (reason_for 22) (Record j))) rest
+one_pair es j rest = cond (touched es (edit_in es j) j) (Err (refusal (reason_for 22) (Record j))) rest
 
 unfoldable pub pair_rules : List Edit → ℕ → Verdict
-pair_rules es n = scan (one_pair es) Pass 0 n
+pair_rules es n = scan (one_pair es) (Ok tt) 0 n

@@ -1,15 +1,12 @@
 -- Document 01, "Function records": their layout, and the old address.
-use Rattle.std.specs.Prelude.{ℕ, ◌+◌, ◌-◌, Bool, cond, ◌&&◌, List, leb, ltb, eqb, length}
+use Rattle.records.specs.declared.refusal.Reason.{Reason}
+use Rattle.std.specs.Prelude.{ℕ, ◌+◌, ◌-◌, Bool, cond, ◌&&◌, List, leb, ltb, eqb, length, Option, ok_or, Ok, Err, Result}
 use Rattle.words.specs.Number.{le_at}
 use Rattle.records.specs.Refusal.{reason_for}
 use Rattle.elf.specs.Name.{Name, named, unnamed, name_in}
 use Rattle.symbols.specs.SymbolList.{listed_name_max, lookup}
-use Rattle.symbols.specs.declared.Found.{Found}
-use Rattle.symbols.specs.declared.Found.TheVariants.{Address, Nothing}
 use Rattle.functions.specs.Patching.{Patching}
 use Rattle.functions.specs.declared.function.FunctionRecord.{FunctionRecord}
-use Rattle.functions.specs.declared.function.OldAddress.{OldAddress}
-use Rattle.functions.specs.declared.function.OldAddress.TheVariants.{At, Refused}
 
 -- "64 bytes ..: name, new_addr, old_addr of 8; new_size, old_size of 4; version 1; 31 zero bytes": the record at at of the placed bytes
 unfoldable pub record_of : List ℕ → ℕ → FunctionRecord
@@ -28,19 +25,18 @@ abbrev pub points_into : Patching → ℕ → Bool
 points_into p address = leb p.host.slot address && ltb (address - p.host.slot) (length p.placed)
 
 -- "a used .. function name isn't in the list": 3
-abbrev pub function_found : Found → OldAddress
-function_found (Address a) = At a
-function_found Nothing = Refused (reason_for 3)
+abbrev pub function_found : Option ℕ → Result ℕ Reason
+function_found o = ok_or o (reason_for 3)
 
 -- "1 to 127 bytes ended by zero, and is looked up"
-abbrev pub named_address : List ℕ → Name → OldAddress
+abbrev pub named_address : List ℕ → Name → Result ℕ Reason
 named_address list (named name) =
-    cond (leb 1 (length name) && leb (length name) listed_name_max) (function_found (lookup list name)) (Refused (reason_for 22))
-named_address list unnamed = Refused (reason_for 22)
+    cond (leb 1 (length name) && leb (length name) listed_name_max) (function_found (lookup list name)) (Err (reason_for 22))
+named_address list unnamed = Err (reason_for 22)
 
 -- "old_addr 0: name points into the placed bytes at ..; Otherwise name isn't consulted."
-unfoldable pub old_address_of : Patching → FunctionRecord → OldAddress
+unfoldable pub old_address_of : Patching → FunctionRecord → Result ℕ Reason
 old_address_of p f =
     cond (eqb f.old_addr 0)
-    (cond (points_into p f.name) (named_address p.list (name_in p.placed (f.name - p.host.slot))) (Refused (reason_for 22)))
-    (At f.old_addr)
+    (cond (points_into p f.name) (named_address p.list (name_in p.placed (f.name - p.host.slot))) (Err (reason_for 22)))
+    (Ok f.old_addr)

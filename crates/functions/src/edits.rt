@@ -6,17 +6,10 @@ ghost use Rattle.functions.specs.Edits.{lies_in, form_ok, jump_ok, fill_ok, addr
 ghost use Rattle.functions.specs.Patching.{patching};
 
 use super::function;
-use super::function::{FunctionRecord, OldAddress};
+use super::function::FunctionRecord;
 use machine::host::Host;
 use records::payload::{Edit, EditKind, Payload};
 use records::refusal::Reason;
-
-// The edit, or why the record is refused.
-#[derive(Clone, Copy)]
-pub enum RecordEdit {
-    Make(Edit),
-    Fault(Reason),
-}
 
 // Whether `size` bytes from `address` on lie among `count` bytes that begin at `start`: nothing wraps.
 fn lies_in(start: u64, count: u64, address: u64, size: u64) -> bool
@@ -74,16 +67,16 @@ fn addresses_ok(host: Host, old: u64, f: FunctionRecord) -> bool
 }
 
 // The jump from the old address to the new code.
-fn jump_edit(host: Host, old: u64, f: FunctionRecord) -> RecordEdit
+fn jump_edit(host: Host, old: u64, f: FunctionRecord) -> Result<Edit, Reason>
     requires { (host.text ≤ old) × (old - host.text ≤ text_max) }
     ensures { result ≡ jump_edit (patching host [] []) old f }
 {
     let processor = host.processor;
     let displacement = processor.displacement(old, f.new_addr);
     if !processor.reaches(displacement) {
-        return RecordEdit::Fault(Reason::OutOfRange);
+        return Err(Reason::OutOfRange);
     }
-    RecordEdit::Make(Edit {
+    Ok(Edit {
         offset: (old - host.text) as u32,
         length: processor.jump_length() as u32,
         kind: EditKind::Jump(displacement),
@@ -98,11 +91,11 @@ fn edit_from(
     at: usize,
     old: u64,
     f: FunctionRecord,
-) -> RecordEdit
+) -> Result<Edit, Reason>
     requires { (at + record_size ≤ length placed.now) × (host.text_length ≤ text_max) }
     ensures { result ≡ edit_from (patching host placed.now list.now) at old f }
 {
-    let invalid = RecordEdit::Fault(Reason::Invalid);
+    let invalid = Err(Reason::Invalid);
     if !form_ok(placed, at, f) {
         return invalid;
     }
@@ -116,7 +109,7 @@ fn edit_from(
         if !fill_ok(host, f) {
             return invalid;
         }
-        return RecordEdit::Make(Edit {
+        return Ok(Edit {
             offset: (old - host.text) as u32,
             length: f.new_size as u32,
             kind: EditKind::Fill,
@@ -129,13 +122,11 @@ fn edit_from(
 }
 
 // The edit of the record at `at` of the placed bytes.
-pub(crate) fn edit_of(host: Host, placed: &[u8], list: &[u8], at: usize) -> RecordEdit
+pub(crate) fn edit_of(host: Host, placed: &[u8], list: &[u8], at: usize) -> Result<Edit, Reason>
     requires { (at + record_size ≤ length placed.now) × (host.text_length ≤ text_max) }
     ensures { result ≡ edit_of (patching host placed.now list.now) at }
 {
     let f = function::read_record(placed, at);
-    match function::old_address(host, placed, list, f) {
-        OldAddress::At(old) => edit_from(host, placed, list, at, old, f),
-        OldAddress::Refused(reason) => RecordEdit::Fault(reason),
-    }
+    let old = function::old_address(host, placed, list, f)?;
+    edit_from(host, placed, list, at, old, f)
 }

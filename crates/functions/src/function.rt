@@ -7,7 +7,6 @@ ghost use Rattle.functions.specs.Records.{record_of, old_address_of, named_addre
 
 use machine::host::Host;
 use records::refusal::Reason;
-use words::bytes;
 
 #[derive(Clone, Copy)]
 pub struct FunctionRecord {
@@ -17,13 +16,6 @@ pub struct FunctionRecord {
     pub new_size: u64,
     pub old_size: u64,
     pub version: u64,
-}
-
-// The old address, or why there is none.
-#[derive(Clone, Copy)]
-pub enum OldAddress {
-    At(u64),
-    Refused(Reason),
 }
 
 // The record at `at` of the placed bytes.
@@ -42,40 +34,41 @@ pub(crate) fn read_record(placed: &[u8], at: usize) -> FunctionRecord
 }
 
 // The address of the name that begins at `start` of the placed bytes.
-fn named_address(placed: &[u8], list: &[u8], start: u64) -> OldAddress
+fn named_address(placed: &[u8], list: &[u8], start: u64) -> Result<u64, Reason>
     ensures { result ≡ named_address list.now (name_in placed.now start) }
 {
     let first = start as usize;
-    let bytes::Found::At(end) = elf::name_end(placed, start) else {
-        return OldAddress::Refused(Reason::Invalid);
+    let Some(end) = elf::name_end(placed, start) else {
+        return Err(Reason::Invalid);
     };
     if end - first < 1 {
-        return OldAddress::Refused(Reason::Invalid);
+        return Err(Reason::Invalid);
     }
     if symbols::NAME_MAX < end - first {
-        return OldAddress::Refused(Reason::Invalid);
+        return Err(Reason::Invalid);
     }
     let search = symbols::find(list, &placed[first..end]);
-    let found = search.found;
-    match found {
-        symbols::Found::Address(a) => OldAddress::At(a),
-        symbols::Found::Nothing => OldAddress::Refused(Reason::NotListed),
-    }
+    search.found.ok_or(Reason::NotListed)
 }
 
 // The old address of a record: given, or that of a listed name.
-pub(crate) fn old_address(host: Host, placed: &[u8], list: &[u8], f: FunctionRecord) -> OldAddress
+pub(crate) fn old_address(
+    host: Host,
+    placed: &[u8],
+    list: &[u8],
+    f: FunctionRecord,
+) -> Result<u64, Reason>
     ensures { result ≡ old_address_of (patching host placed.now list.now) f }
 {
     if f.old_addr != 0 {
-        return OldAddress::At(f.old_addr);
+        return Ok(f.old_addr);
     }
     let name = f.name;
     if name < host.slot {
-        return OldAddress::Refused(Reason::Invalid);
+        return Err(Reason::Invalid);
     }
     if placed.len() as u64 <= name - host.slot {
-        return OldAddress::Refused(Reason::Invalid);
+        return Err(Reason::Invalid);
     }
     named_address(placed, list, name - host.slot)
 }

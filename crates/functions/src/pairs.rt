@@ -4,7 +4,7 @@ ghost use Rattle.records.specs.Limits.{records_max};
 ghost use Rattle.functions.specs.Pairs.{touch, pair_rules};
 
 use records::payload::{Edit, Payload};
-use records::refusal::{Place, Reason, Verdict};
+use records::refusal::{self, Place, Reason, Refusal};
 
 fn touching(a: Edit, b: Edit) -> bool
     ensures { result ≡ touch a b }
@@ -21,25 +21,22 @@ fn touching(a: Edit, b: Edit) -> bool
 }
 
 // Two nested loops, left from the inner one by a label with the later record's number.
-pub(crate) fn check_pairs(edits: [Edit; Payload::RECORDS_MAX], count: usize) -> Verdict
+pub(crate) fn check_pairs(edits: [Edit; Payload::RECORDS_MAX], count: usize) -> Result<(), Refusal>
     requires { count ≤ records_max }
     ensures { result ≡ pair_rules edits count }
 {
-    let mut j = 0;
-    'pairs: while j < count {
-        let later = edits[j];
-        let mut i = 0;
-        while i < j {
-            let earlier = edits[i];
-            if touching(earlier, later) {
-                break 'pairs;
+    let touched = 'pairs: {
+        for (j, later) in edits[..count].iter().enumerate() {
+            for earlier in &edits[..j] {
+                if touching(*earlier, *later) {
+                    break 'pairs Some(j);
+                }
             }
-            i += 1;
         }
-        j += 1;
+        None
+    };
+    match touched {
+        Some(j) => refusal::refused(Reason::Invalid, Place::Record(j as u16)),
+        None => Ok(()),
     }
-    if j < count {
-        return Verdict::refused(Reason::Invalid, Place::Record(j as u16));
-    }
-    Verdict::Pass
 }

@@ -1,4 +1,5 @@
 -- What a header that passes tells.
+use Rattle.std.proofs.Common.{Ok}
 use Prim.Native.Nat.{ℕ, ◌≤◌}
 use mathlib.Core.Path.{◌≡◌, refl}
 use mathlib.Core.Bool.{Bool, true, false, and-false, false≢true}
@@ -8,7 +9,6 @@ use lib.Dec.{leb}
 use Rattle.words.proofs.Tests.{both}
 use Rattle.records.specs.Limits.{file_min, file_max, sections_max}
 use Rattle.records.specs.declared.refusal.Place.TheVariants.{Nowhere}
-use Rattle.records.specs.declared.refusal.Verdict.TheVariants.{Pass}
 use Rattle.machine.specs.Machine.{Machine}
 use Rattle.elf.specs.declared.FileHeader.{FileHeader}
 use Rattle.header.specs.Header.{size_ok, fields_ok, header_rules, Headed}
@@ -28,7 +28,7 @@ fields_told m h e = by-test (leb h.e_shnum sections_max) refl
     by-test true f = leb-true _ _ f
     by-test false f = absurd (false≢true (simp (f, and-false) at e))
 
-pub headed : (m : Machine) (file : List ℕ) → header_rules m file ≡ Pass → Headed file
+pub headed : (m : Machine) (file : List ℕ) → header_rules m file ≡ Ok tt → Headed file
 unfolding header_rules
 headed m file e =
     let all = both _ _ (must-pass _ 8 Nowhere e) in

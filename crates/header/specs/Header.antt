@@ -1,9 +1,9 @@
 -- Document 01, "Reading a payload": the file's size and header, number 8.
+use Rattle.records.specs.Refusal.{Verdict}
 use Rattle.std.specs.Prelude.{ℕ, ◌+◌, ◌*◌, ◌≤◌, Bool, ◌&&◌, List, leb, eqb, length}
 use Rattle.records.specs.Limits.{file_min, file_max, sections_max}
 use Rattle.records.specs.Verdict.{must}
 use Rattle.records.specs.declared.refusal.Place.TheVariants.{Nowhere}
-use Rattle.records.specs.declared.refusal.Verdict.{Verdict}
 use Rattle.machine.specs.Machine.{Machine}
 use Rattle.elf.specs.Layout.{section_header_size, file_header_of}
 use Rattle.elf.specs.declared.FileHeader.{FileHeader}

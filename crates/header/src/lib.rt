@@ -8,7 +8,7 @@ ghost use Rattle.header.specs.Header.{fields_ok, header_rules};
 use elf::FileHeader;
 use machine::processor::Processor;
 use records::payload::Payload;
-use records::refusal::{Place, Reason, Refusal, Verdict};
+use records::refusal::{Place, Reason, Refusal};
 
 // Whether the header's fields are those of a payload.
 fn fields_ok(processor: Processor, h: FileHeader) -> bool
@@ -48,10 +48,10 @@ fn fields_ok(processor: Processor, h: FileHeader) -> bool
 }
 
 // A file of a wrong size or with a wrong header is refused with 8, nowhere.
-pub fn check_header(processor: Processor, file: &[u8]) -> Verdict
+pub fn check_header(processor: Processor, file: &[u8]) -> Result<(), Refusal>
     ensures { result ≡ header_rules (machine_of processor) file.now }
 {
-    let bad = Verdict::Refuse(Refusal {
+    let bad = Err(Refusal {
         reason: Reason::BadHeader,
         place: Place::Nowhere,
     });
@@ -69,5 +69,5 @@ pub fn check_header(processor: Processor, file: &[u8]) -> Verdict
     if !words::address::lies_within(h.e_shoff, table, file.len() as u64) {
         return bad;
     }
-    Verdict::Pass
+    Ok(())
 }

@@ -1,11 +1,11 @@
 -- The state in bytes: what is read of it, and what the bytes hold after one part of it was replaced.
+use Rattle.std.proofs.Common.{Some, None}
 use Prim.Native.Nat.{ℕ}
 use mathlib.Core.Path.{◌≡◌, ap, subst, ◌∙◌}
 use mathlib.Core.Bool.{true}
 use mathlib.Core.List.{List}
 use lib.ListN.{length, take}
 use Rattle.words.specs.Find.{every}
-use Rattle.words.specs.declared.bytes.Found.TheVariants.{At, Nothing}
 use Rattle.records.specs.declared.payload.Payload.{Payload}
 use Rattle.memory.specs.declared.config.Config.{Config}
 use Rattle.state.specs.Change.{changed_at, changed_in}
@@ -34,11 +34,11 @@ job-after {b} {after} {j} {k} h g e = holds_as g (ap (λ (x : Job). with_job x (
 
 -- ---- the payload in a slot
 
-pub changed-there : (f : Payload → Payload) (s : State) (slot i : ℕ) → with_slot s slot ≡ At i → changed_at f s i ≡ changed_in f s slot
+pub changed-there : (f : Payload → Payload) (s : State) (slot i : ℕ) → with_slot s slot ≡ Some i → changed_at f s i ≡ changed_in f s slot
 unfolding changed_in
 changed-there f s slot i e = rw e
 
-pub changed-nowhere : (f : Payload → Payload) (s : State) (slot : ℕ) → with_slot s slot ≡ Nothing → s ≡ changed_in f s slot
+pub changed-nowhere : (f : Payload → Payload) (s : State) (slot : ℕ) → with_slot s slot ≡ None → s ≡ changed_in f s slot
 unfolding changed_in
 changed-nowhere f s slot e = rw e
 

@@ -6,20 +6,17 @@ ghost use Rattle.state_bytes.specs.Layout.{records_size};
 ghost use Rattle.state_bytes.specs.Stored.{state_in};
 
 use state_bytes::parts;
-use words::bytes::Found;
 
 // The place in the list of the payload of this name.
-pub fn with_name(b: &[u8], name: &[u8]) -> Found
+pub fn with_name(b: &[u8], name: &[u8]) -> Option<usize>
     requires { (length b.now ≡ records_size) × (in_range (state_in b.now) ≡ true) }
     ensures { result ≡ with_name (state_in b.now) name.now }
 {
     let count = parts::count(b);
-    let mut i = 0;
-    while i < count {
+    for i in 0..count {
         if names::is_named(parts::payload(b, i), name) {
-            return Found::At(i);
+            return Some(i);
         }
-        i += 1;
     }
-    Found::Nothing
+    None
 }

@@ -1,5 +1,5 @@
 // The outline of the state that the bytes hold, and whether its numbers lie in their ranges.
-ghost use Rattle.std.specs.Prelude.{◌≡◌, ℕ, ◌≤◌, ◌<◌, length};
+ghost use Rattle.std.specs.Prelude.{◌≡◌, ℕ, ◌≤◌, ◌<◌, length, Some};
 ghost use Rattle.memory.specs.Memory.{slot_count};
 ghost use Rattle.state.specs.Find.{with_slot};
 ghost use Rattle.outlines.specs.Outline.{Outlines};
@@ -11,7 +11,6 @@ use memory::config::Config;
 use outlines::outline;
 use outlines::outline::Outline;
 use state_bytes::parts;
-use words::bytes::Found;
 
 pub fn outline(b: &[u8]) -> Outline
     requires { (length b.now ≡ records_size) × ((state_in b.now).count ≤ slot_count) }
@@ -23,11 +22,9 @@ pub fn outline(b: &[u8]) -> Outline
     let job = parts::job(b);
     let mut slots = [0u32; Config::SLOTS];
     let mut edits = [0u32; Config::SLOTS];
-    let mut i = 0;
-    while i < count {
+    for i in 0..count {
         slots[i] = parts::slot(b, i);
         edits[i] = parts::edit_count(b, i);
-        i += 1;
     }
     Outline {
         count,
@@ -43,9 +40,9 @@ pub fn outline(b: &[u8]) -> Outline
 }
 
 // The place in the list of the payload in this slot.
-pub fn with_slot(b: &[u8], slot: u32) -> Found
+pub fn with_slot(b: &[u8], slot: u32) -> Option<usize>
     requires { (length b.now ≡ records_size) × ((state_in b.now).count ≤ slot_count) }
-    ensures { (result ≡ with_slot (state_in b.now) slot) × ((i : ℕ) → result ≡ Found.At i → i < slot_count) }
+    ensures { (result ≡ with_slot (state_in b.now) slot) × ((i : ℕ) → result ≡ Some i → i < slot_count) }
 {
     outline::with_slot(outline(b), slot)
 }
@@ -63,12 +60,10 @@ pub fn in_range(b: &[u8]) -> bool
     if Config::SLOTS < count {
         return false;
     }
-    let mut i = 0;
-    while i < count {
+    for i in 0..count {
         if !ranges::ranges::payload_in_range(config, parts::payload(b, i)) {
             return false;
         }
-        i += 1;
     }
     if count < parts::depth(b) {
         return false;

@@ -1,5 +1,5 @@
 -- From what a call gave to what its line gives.
-use Rattle.std.proofs.Common.{◌≡◌, ℕ, ◌≤◌, true, false, ◌&&◌, leb, List, [], ◌++◌, length, take, sym, refl, ap, ◌∙◌, subst, arith}
+use Rattle.std.proofs.Common.{◌≡◌, ℕ, ◌≤◌, true, false, ◌&&◌, leb, List, [], ◌++◌, length, take, sym, refl, ap, ◌∙◌, subst, arith, Some, Option}
 use Rattle.state.specs.declared.state.Called.{Called}
 use Rattle.state.specs.declared.state.State.{State}
 use Rattle.actions.specs.Actions as actions
@@ -15,7 +15,6 @@ use Rattle.script.specs.declared.command.Command.TheVariants.{
   Report,
   Tick,
   Work,
-  Unreadable,
 }
 use Rattle.script.specs.declared.command.Host.{Host}
 use Rattle.script.specs.declared.command.Request.{Request}
@@ -103,7 +102,7 @@ unfolding start_line
 start-session n mode h id = refl
 
 -- before a start-up has succeeded, no other command is read
-pub off-bad : (n : ℕ) (line : List ℕ) (c : Command) → ((h : Host) → c ≡ Start h → ⊥) → off_line n line c ≡ bad n off
+pub off-bad : (n : ℕ) (line : List ℕ) (c : Command) → ((h : Host) → c ≡ Start h → ⊥) → off_line n line (Some c) ≡ bad n off
 unfolding off_line
 off-bad n line (Start h) other = absurd (other h refl)
 off-bad n line Upload other = refl
@@ -113,7 +112,6 @@ off-bad n line (Act q) other = refl
 off-bad n line (Report cpu) other = refl
 off-bad n line Tick other = refl
 off-bad n line Work other = refl
-off-bad n line Unreadable other = refl
 
 -- a start-up, where the lines of a payload do not matter
 pub start_gives :
@@ -227,7 +225,7 @@ module _ (c next : Console) (e : next ≡ counted c) where
 
   module _ (s : State) (m : Memory) (g : Gathered) (line : List ℕ) {r : Stepped} {m' : Memory} {g' : Gathered} {from to : List ℕ} where
     pub off-gives :
-        (command : Command) → command ≡ command_in line → c.mode ≡ Off → Gives (off_line next.lines line command) r m' g' from to →
+        (command : Option Command) → command ≡ command_in line → c.mode ≡ Off → Gives (off_line next.lines line command) r m' g' from to →
         Gives (line_of (standing c s m g) line) r m' g' from to
     unfolding line_of
     off-gives command read mode x =
@@ -235,7 +233,7 @@ module _ (c next : Console) (e : next ≡ counted c) where
         subst (λ a. Gives a r m' g' from to) same x
 
     pub ready-gives :
-        (command : Command) → command ≡ command_in line → c.mode ≡ Ready →
+        (command : Option Command) → command ≡ command_in line → c.mode ≡ Ready →
         Gives (ready_line next.lines (unit_in next s m) line command) r m' g' from to →
         Gives (line_of (standing c s m g) line) r m' g' from to
     unfolding line_of

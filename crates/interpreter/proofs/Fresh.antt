@@ -1,11 +1,10 @@
 -- A start-up's answer is that on fresh memory, whatever arena, stores and text hold.
-use Rattle.std.proofs.Common.{◌≡◌, ℕ, ◌≤◌, true, ◌&&◌, List, length, take, replicate, sym, refl, ap, ◌∙◌, subst, arith, length-take-le, eq-eqb}
+use Rattle.records.specs.Refusal.{Verdict}
+use Rattle.std.proofs.Common.{◌≡◌, ℕ, ◌≤◌, true, ◌&&◌, List, length, take, replicate, sym, refl, ap, ◌∙◌, subst, arith, length-take-le, eq-eqb, Ok, Err}
 use lib.ListN.{length-replicate}
 use Rattle.records.specs.Verdict.{must}
 use Rattle.records.specs.declared.refusal.Place.TheVariants.{Nowhere}
 use Rattle.records.specs.declared.refusal.Refusal.{Refusal}
-use Rattle.records.specs.declared.refusal.Verdict.{Verdict}
-use Rattle.records.specs.declared.refusal.Verdict.TheVariants.{Pass, Refuse}
 use Rattle.memory.specs.Config.{config_ok}
 use Rattle.memory.specs.Memory.{arena_size, undo_size, ids_size}
 use Rattle.state.specs.State.{state_with, no_state}
@@ -41,7 +40,7 @@ lent_by h text arena undo ids id =
 accepted-start : (l : Lent) → Started
 accepted-start l =
     record {
-      answer = Pass;
+      answer = Ok tt;
       state = state_with (config_for l);
       arena = replicate arena_size 0;
       undo = replicate undo_size 0;
@@ -49,13 +48,13 @@ accepted-start l =
     }
 
 refused-start : (l : Lent) (q : Refusal) → Started
-refused-start l q = record { answer = Refuse q; state = no_state; arena = l.arena; undo = l.undo; ids = l.ids }
+refused-start l q = record { answer = Err q; state = no_state; arena = l.arena; undo = l.undo; ids = l.ids }
 
-start-accepted : (l : Lent) → start_rules l ≡ Pass → start_of l ≡ accepted-start l
+start-accepted : (l : Lent) → start_rules l ≡ Ok tt → start_of l ≡ accepted-start l
 unfolding start_of accepted-start
 start-accepted l e = rw e
 
-start-refused : (l : Lent) (q : Refusal) → start_rules l ≡ Refuse q → start_of l ≡ refused-start l q
+start-refused : (l : Lent) (q : Refusal) → start_rules l ≡ Err q → start_of l ≡ refused-start l q
 unfolding start_of refused-start
 start-refused l q e = rw e
 
@@ -76,7 +75,7 @@ module _ (h : Host) (text arena undo ids id : List ℕ) (room : h.size ≤ lengt
   module _ (r : Called) (arena' undo' ids' : List ℕ) (e : started r arena' undo' ids' ≡ start_of (lent_by h text arena undo ids id)) where
     by-verdict : (v : Verdict) → start_rules (fresh h id) ≡ v → SetsUp h id r arena undo ids arena' undo' ids'
     unfolding accepted-start refused-start
-    by-verdict Pass v =
+    by-verdict (Ok _) v =
         let old = e ∙ start-accepted _ (same-rules ∙ v) in
         let new = start-accepted (fresh h id) v in
         record {
@@ -90,7 +89,7 @@ module _ (h : Host) (text arena undo ids id : List ℕ) (room : h.size ≤ lengt
                 ap (λ x. x.ids) old ∙ sym (ap (λ x. x.ids) new),
               );
         }
-    by-verdict (Refuse q) v =
+    by-verdict (Err q) v =
         let old = e ∙ start-refused _ q (same-rules ∙ v) in
         let new = start-refused (fresh h id) q v in
         record {
@@ -110,12 +109,12 @@ lent-stores m l = rw (eq-eqb _ _ l.arena, eq-eqb _ _ l.undo, eq-eqb _ _ l.ids)
 -- ---- the line's answer
 
 module _ (n : ℕ) (mode : Mode) (h : Host) (id : List ℕ) where
-  line_refused : (q : Refusal) → (start_of (fresh h id)).answer ≡ Refuse q → (start_line n mode h id).session.mode ≡ mode
+  line_refused : (q : Refusal) → (start_of (fresh h id)).answer ≡ Err q → (start_line n mode h id).session.mode ≡ mode
   unfolding start_line
   line_refused q e = rw e
 
   line-accepted :
-      (start_of (fresh h id)).answer ≡ Pass →
+      (start_of (fresh h id)).answer ≡ Ok tt →
       (start_line n mode h id).session.mode
       ≡ ready
       (unit (start_of (fresh h id)).state (replicate h.size 0) (start_of (fresh h id)).arena (start_of (fresh h id)).undo
@@ -145,7 +144,7 @@ module _
 
   -- refused, what stood stands
   stands :
-      (p : Pending) (q : Refusal) → r.verdict ≡ Refuse q →
+      (p : Pending) (q : Refusal) → r.verdict ≡ Err q →
       mode_in c.mode (unit_in c s (memory m.text arena' undo' ids' m.id)) p
       ≡ (start_line c.lines (mode_in c.mode (unit_in c s m) p) h id).session.mode
   stands p q refused =
@@ -154,14 +153,14 @@ module _
       (sym (line_refused c.lines (mode_in c.mode (unit_in c s m) p) h id q (sym x.answer ∙ refused)))
 
   pub stands-starts :
-      Within c → (q : Refusal) → r.verdict ≡ Refuse q → (n : ℕ) (from to : List ℕ) → written to n ≡ writing from 0 (verdict_line r.verdict) →
+      Within c → (q : Refusal) → r.verdict ≡ Err q → (n : ℕ) (from to : List ℕ) → written to n ≡ writing from 0 (verdict_line r.verdict) →
       Starts c s h id m (stepped c s n) (memory m.text arena' undo' ids' m.id) from to
   stands-starts within q refused n from to out =
       record { lines = refl; mode = λ p. stands p q refused; out = line-written n from to out; within = within }
 
   -- accepted, the unit is the new one
   begins :
-      (p : Pending) (t : Stepped) (text' id' new : List ℕ) (n : ℕ) → t ≡ begun c r.state h.size (length new) n → r.verdict ≡ Pass →
+      (p : Pending) (t : Stepped) (text' id' new : List ℕ) (n : ℕ) → t ≡ begun c r.state h.size (length new) n → r.verdict ≡ Ok tt →
       new ≡ id → take h.size text' ≡ replicate h.size 0 → take (length new) id' ≡ new →
       mode_in t.console.mode (unit_in t.console t.state (memory text' arena' undo' ids' id')) p
       ≡ (start_line c.lines (mode_in c.mode (unit_in c s m) p) h id).session.mode
@@ -173,7 +172,7 @@ module _
 
   pub begins-starts :
       h.size ≤ size_most → (t : Stepped) (text' id' new : List ℕ) (n : ℕ) → length new ≤ line_max →
-      t ≡ begun c r.state h.size (length new) n → r.verdict ≡ Pass → new ≡ id →
+      t ≡ begun c r.state h.size (length new) n → r.verdict ≡ Ok tt → new ≡ id →
       take h.size text' ≡ replicate h.size 0 → take (length new) id' ≡ new →
       (from to : List ℕ) → written to n ≡ writing from 0 (verdict_line r.verdict) →
       Starts c s h id m t (memory text' arena' undo' ids' id') from to

@@ -1,5 +1,5 @@
 -- W2: what a line does, and what is written for it.
-use Rattle.std.specs.Prelude.{ℕ, ◌+◌, ◌*◌, ◌%◌, ◌^◌, Bool, cond, ◌&&◌, List, [], ◌∷◌, ◌++◌, length, take, replicate, nat_le}
+use Rattle.std.specs.Prelude.{ℕ, ◌+◌, ◌*◌, ◌%◌, ◌^◌, Bool, cond, ◌&&◌, List, [], ◌∷◌, ◌++◌, length, take, replicate, nat_le, Some, None, Option}
 use Rattle.words.specs.Order.{equal}
 use Rattle.words.specs.Text.{ascii}
 use Rattle.records.specs.Limits.{file_max, name_max}
@@ -27,7 +27,6 @@ use Rattle.script.specs.declared.command.Command.TheVariants.{
   Report,
   Tick,
   Work,
-  Unreadable,
 }
 use Rattle.script.specs.declared.command.Host.{Host}
 use Rattle.script.specs.declared.command.Request.{Request}
@@ -126,32 +125,32 @@ upload_line n u p =
 -- ---- a line as a command
 
 -- before a `start` has succeeded
-unfoldable pub off_line : ℕ → List ℕ → Command → Answer
-off_line n line (Start h) = start_line n off h (id_in line)
-off_line n line Upload = bad n off
-off_line n line Get = bad n off
-off_line n line Listing = bad n off
-off_line n line (Act q) = bad n off
-off_line n line (Report cpu) = bad n off
-off_line n line Tick = bad n off
-off_line n line Work = bad n off
-off_line n line Unreadable = bad n off
+unfoldable pub off_line : ℕ → List ℕ → Option Command → Answer
+off_line n line (Some (Start h)) = start_line n off h (id_in line)
+off_line n line (Some Upload) = bad n off
+off_line n line (Some Get) = bad n off
+off_line n line (Some Listing) = bad n off
+off_line n line (Some (Act q)) = bad n off
+off_line n line (Some (Report cpu)) = bad n off
+off_line n line (Some Tick) = bad n off
+off_line n line (Some Work) = bad n off
+off_line n line None = bad n off
 
 -- after it
-unfoldable pub ready_line : ℕ → Unit → List ℕ → Command → Answer
-ready_line n u line (Start h) = start_line n (ready u) h (id_in line)
-ready_line n u line Upload = answer n (payload u (pending (name_in line) (list_in line) [])) []
-ready_line n u line Get = get_line n u (name_in line)
-ready_line n u line Listing = list_line n u
-ready_line n u line (Act q) = act_line n u (name_in line) q
-ready_line n u line (Report cpu) = called_line n u (report_of u.state cpu)
-ready_line n u line Tick = called_line n u (tick_of u.state)
-ready_line n u line Work = work_line n u
-ready_line n u line Unreadable = bad n (ready u)
+unfoldable pub ready_line : ℕ → Unit → List ℕ → Option Command → Answer
+ready_line n u line (Some (Start h)) = start_line n (ready u) h (id_in line)
+ready_line n u line (Some Upload) = answer n (payload u (pending (name_in line) (list_in line) [])) []
+ready_line n u line (Some Get) = get_line n u (name_in line)
+ready_line n u line (Some Listing) = list_line n u
+ready_line n u line (Some (Act q)) = act_line n u (name_in line) q
+ready_line n u line (Some (Report cpu)) = called_line n u (report_of u.state cpu)
+ready_line n u line (Some Tick) = called_line n u (tick_of u.state)
+ready_line n u line (Some Work) = work_line n u
+ready_line n u line None = bad n (ready u)
 
 -- the command of a line that is not too long
-unfoldable pub command_in : List ℕ → Command
-command_in line = cond (nat_le (length line) line_max) (command_of line) Unreadable
+unfoldable pub command_in : List ℕ → Option Command
+command_in line = cond (nat_le (length line) line_max) (command_of line) None
 
 -- ---- a line of a payload
 

@@ -1,7 +1,6 @@
 -- What the parts of a line give: the contracts of functions that only this crate calls.
-use Rattle.std.specs.Prelude.{◌≡◌, ℕ, ◌≤◌, Bool, List, length, take}
+use Rattle.std.specs.Prelude.{◌≡◌, ℕ, ◌≤◌, Bool, List, length, take, Ok, Err}
 use Rattle.records.specs.declared.refusal.Refusal.{Refusal}
-use Rattle.records.specs.declared.refusal.Verdict.TheVariants.{Pass, Refuse}
 use Rattle.state.specs.declared.state.Called.{Called}
 use Rattle.state.specs.declared.state.State.{State}
 use Rattle.startup.specs.Start as start
@@ -57,9 +56,9 @@ stores arena undo ids = start.stores_ok (length arena) (length undo) (length ids
 -- the answer is that on fresh memory; refused, nothing is changed; accepted, state and memory are the fresh ones
 pub record SetsUp (h : Host) (id : List ℕ) (r : Called) (arena undo ids arena' undo' ids' : List ℕ) : Type 0 where
   pub answer : r.verdict ≡ (start.start_of (fresh h id)).answer
-  pub refused : (q : Refusal) → r.verdict ≡ Refuse q → (arena' ≡ arena) × (undo' ≡ undo) × (ids' ≡ ids)
+  pub refused : (q : Refusal) → r.verdict ≡ Err q → (arena' ≡ arena) × (undo' ≡ undo) × (ids' ≡ ids)
   pub accepted :
-      r.verdict ≡ Pass →
+      r.verdict ≡ Ok tt →
       (r.state ≡ (start.start_of (fresh h id)).state)
       × (arena' ≡ (start.start_of (fresh h id)).arena)
       × (undo' ≡ (start.start_of (fresh h id)).undo)

@@ -11,11 +11,11 @@ use script::command::Command;
 use state::state::State;
 
 // The command of a line that is not too long.
-fn command_in(line: &[u8]) -> Command
+fn command_in(line: &[u8]) -> Option<Command>
     ensures { result ≡ command_in line.now }
 {
     if Console::LINE_MAX < line.len() {
-        return Command::Unreadable;
+        return None;
     }
     command::read(line)
 }
@@ -24,7 +24,7 @@ fn command_in(line: &[u8]) -> Command
 fn off_line(
     console: Console,
     state: State,
-    command: Command,
+    command: Option<Command>,
     text: &mut [u8],
     arena: &mut [u8],
     undo: &mut [u8],
@@ -41,19 +41,22 @@ fn off_line(
         (memory text.new arena.new undo.new ids.new id.new) g
         out.old out.new }
 {
-    if let Command::Start(host) = command {
-        return starting::start(
-            console, state, host, text, arena, undo, ids, id, list, line, out,
-        );
-    }
-    asking::bad(console, state, out)
+    let Some(command) = command else {
+        return asking::bad(console, state, out);
+    };
+    let Command::Start(host) = command else {
+        return asking::bad(console, state, out);
+    };
+    starting::start(
+        console, state, host, text, arena, undo, ids, id, list, line, out,
+    )
 }
 
 // A command after it.
 fn ready_line(
     console: Console,
     state: State,
-    command: Command,
+    command: Option<Command>,
     text: &mut [u8],
     arena: &mut [u8],
     undo: &mut [u8],
@@ -75,6 +78,9 @@ fn ready_line(
         (gathered name.new list.new file)
         out.old out.new }
 {
+    let Some(command) = command else {
+        return asking::bad(console, state, out);
+    };
     match command {
         Command::Start(host) => starting::start(
             console, state, host, text, arena, undo, ids, id, list, line, out,
@@ -94,7 +100,6 @@ fn ready_line(
             let called = work::work::work(state, &mut text[..n], undo);
             asking::told(console, called, out)
         }
-        Command::Unreadable => asking::bad(console, state, out),
     }
 }
 

@@ -10,7 +10,6 @@ ghost use Rattle.interpreter.specs.Standing.{memory, out_room, Lends, Within};
 use super::console::{Console, Mode, Stepped};
 use super::fields;
 use answers::lines;
-use records::refusal::Verdict;
 use script::command::Host;
 use state::state::{Called, State};
 
@@ -98,7 +97,7 @@ pub(crate) fn start(
     let called = set_up(host, text, arena, undo, ids, &list[..n]);
     let verdict = called.verdict;
     let written = lines::verdict(out, 0, verdict);
-    if let Verdict::Refuse(r) = verdict {
+    if let Err(r) = verdict {
         return Stepped {
             console,
             state,

@@ -1,5 +1,5 @@
 // An upload: its first line, the lines of its payload, and its end.
-ghost use Rattle.std.specs.Prelude.{◌≡◌, ◌<◌, ◌≤◌, min, true, ◌&&◌, ◌++◌, length, take, nat_le};
+ghost use Rattle.std.specs.Prelude.{◌≡◌, ◌<◌, ◌≤◌, true, ◌&&◌, ◌++◌, length, take, nat_le};
 ghost use Rattle.script.specs.Fields.{field_of};
 ghost use Rattle.script.specs.Hex.{is_hex, hex_bytes};
 ghost use Rattle.interpreter.specs.Lines.{line_max, kept_max, name_in, list_in, is_end};
@@ -58,15 +58,6 @@ pub(crate) fn is_hex(line: &[u8]) -> bool
     hex::is_hex(line)
 }
 
-fn least(a: usize, b: usize) -> usize
-    ensures { result ≡ min a b }
-{
-    if a < b {
-        return a;
-    }
-    b
-}
-
 // A line of hex behind the bytes that were gathered, as far as they are kept.
 pub(crate) fn gather(console: Console, state: State, file: &mut [u8], line: &[u8]) -> Stepped
     requires { (console.file ≤ kept_max) × (length file.old ≡ kept_max) × (is_hex line.now ≡ true) }
@@ -75,7 +66,7 @@ pub(crate) fn gather(console: Console, state: State, file: &mut [u8], line: &[u8
         ≡ take kept_max (take console.file file.old ++ hex_bytes line.now)) }
 {
     let at = console.file;
-    let n = least(Console::FILE_ROOM - at, line.len() / 2);
+    let n = (Console::FILE_ROOM - at).min(line.len() / 2);
     hex::decode(line, n, file, at);
     let mut next = console;
     next.file = at + n;

@@ -1,24 +1,21 @@
 -- An action keeps a sound model sound: refused with a result, unloaded at once, or begun as the job.
+use Rattle.std.proofs.Common.{Some, None, Option, ℕ, Ok}
 use Prim.Native.Nat.{ℕ, suc, ◌≤◌, ◌<◌}
 use mathlib.Core.Path.{◌≡◌, refl, sym, ◌∙◌, subst⁻¹}
 use mathlib.Core.Bool.{Bool, true, false, cond, ◌&&◌}
 use mathlib.Core.List.{List, [], ◌∷◌, ◌++◌}
-use mathlib.Core.Option.{Option, none, some}
 use native.Mathlib.Omega.{arith}
 use borrow.Author.Tests.{leb-true, eqb-true, eqb-false, eq-eqb, ne_eqb, not-true}
 use lib.Dec.{leb, eqb}
 use lib.ListN.{length, get_or, take, drop, length-replicate}
 use Rattle.words.specs.Name.{is_found}
 use Rattle.words.specs.Order.{equal}
-use Rattle.words.specs.declared.bytes.Found.{Found}
-use Rattle.words.specs.declared.bytes.Found.TheVariants.{At, Nothing}
 use Rattle.words.proofs.Find.{first-hit}
 use Rattle.words.proofs.Tests.{both}
 use Rattle.records.specs.Name.{is_name}
 use Rattle.records.specs.Refusal.{number_of}
 use Rattle.records.specs.Verdict.{must}
 use Rattle.records.specs.declared.refusal.Place.TheVariants.{Nowhere}
-use Rattle.records.specs.declared.refusal.Verdict.TheVariants.{Pass}
 use Rattle.records.proofs.Checks.{must-pass, then-pass}
 use Rattle.model.specs.Model.{Loaded, Job, Model, no_payload}
 use Rattle.model.specs.Step.{
@@ -56,7 +53,7 @@ module _ (l : Model) (name : List ℕ) (command : ℕ) where
     high : command ≤ 4
     free : is_busy l.job command (named l name) ≡ false
 
-  requested : request_rules l name command ≡ Pass → Requested
+  requested : request_rules l name command ≡ Ok tt → Requested
   unfolding request_rules
   requested h =
       let one = then-pass (must (is_name name) 22 Nowhere) _ h in
@@ -76,7 +73,7 @@ module _ (l : Model) (command : ℕ) where
     status : p.status ≡ cond (eqb command 2) 2 1
     base : base_ok l command p ≡ true
 
-  conditioned : (p : Loaded) → condition_rules l command p ≡ Pass → Conditioned p
+  conditioned : (p : Loaded) → condition_rules l command p ≡ Ok tt → Conditioned p
   unfolding condition_rules
   conditioned p h =
       let one = then-pass (must (eqb p.status (cond (eqb command 2) 2 1)) 22 Nowhere) _ h in
@@ -112,8 +109,8 @@ module _ (l : Model) (s : Parts l) (i : ℕ) (inside : i < length l.payloads) wh
   stack-left (x ∷ xs) h = (kept-cut l.payloads i x inside (other-slot x h.0), stack-left xs h.1)
 
   job-left : (o : Option Job) → is_busy o 1 chosen ≡ false → KeptJob l.payloads left o
-  job-left none h = tt
-  job-left (some j) h = kept-cut l.payloads i j.slot inside (other-slot j.slot h)
+  job-left None h = tt
+  job-left (Some j) h = kept-cut l.payloads i j.slot inside (other-slot j.slot h)
 
   unloaded : chosen.status ≡ 1 → is_busy l.job 1 chosen ≡ false → Parts (with_list left l)
   unloaded one idle =
@@ -126,9 +123,9 @@ module _ (l : Model) (s : Parts l) (i : ℕ) (inside : i < length l.payloads) wh
   -- ---- it is the job's
 
   -- no job stands before it
-  no-job : (command : ℕ) (o : Option Job) → eqb command 1 ≡ false → is_busy o command chosen ≡ false → o ≡ none
-  no-job command none e idle = refl
-  no-job command (some j) e idle = let busy : true ≡ false = rw e at idle in never refl busy
+  no-job : (command : ℕ) (o : Option Job) → eqb command 1 ≡ false → is_busy o command chosen ≡ false → o ≡ None
+  no-job command None e idle = refl
+  no-job command (Some j) e idle = let busy : true ≡ false = rw e at idle in never refl busy
 
   time-given : (time : ℕ) → 1 ≤ cond (eqb time 0) 30 time
   time-given time =
@@ -154,45 +151,45 @@ module _ (l : Model) (s : Parts l) (i : ℕ) (inside : i < length l.payloads) wh
           gathering = λ h. refl;
         }
 
-    begun : is_busy l.job command chosen ≡ false → Parts (with_job (some (job_for l command chosen time)) (changed_found (with_result 11) l (At i)))
+    begun : is_busy l.job command chosen ≡ false → Parts (with_job (Some (job_for l command chosen time)) (changed_found (with_result 11) l (Some i)))
     begun idle =
         let none_before = no-job command l.job acts idle in
-        let laid : l.laid ≡ expected_in l.payloads l.stack none = rw none_before at s.laid in
+        let laid : l.laid ≡ expected_in l.payloads l.stack None = rw none_before at s.laid in
         let job : Job = job_for l command chosen time in
-        let before = with-job l s (some job) job-begun (laid ∙ sym (done_none l.payloads l.stack command chosen.slot)) in
-        result-kept 11 (with_job (some job) l) (At i) before
+        let before = with-job l s (Some job) job-begun (laid ∙ sym (done_none l.payloads l.stack command chosen.slot)) in
+        result-kept 11 (with_job (Some job) l) (Some i) before
 
 -- ---- the call
 
 module _ (l : Model) (s : Parts l) where
-  refused-sound : (n : ℕ) (f : Found) → Parts (changed_found (with_result n) l f)
+  refused-sound : (n : ℕ) (f : Option ℕ) → Parts (changed_found (with_result n) l f)
   refused-sound n f = subst⁻¹ Parts (changed-is n l f) (result-kept n l f s)
 
   module _ (name : List ℕ) (command time : ℕ) where
     -- the model after an action on the payload found
-    abbrev acted_on : Found → Model
+    abbrev acted_on : Option ℕ → Model
     acted_on f =
         cond (eqb command 1) (with_list (without f l.payloads) l)
-        (with_job (some (job_for l command (payload_found l f) time)) (changed_found (with_result 11) l f))
+        (with_job (Some (job_for l command (payload_found l f) time)) (changed_found (with_result 11) l f))
 
     unload-or-begin :
-        (i : ℕ) → i < length l.payloads → 1 ≤ command → command ≤ 4 → is_busy l.job command (payload_found l (At i)) ≡ false →
-        Conditioned l command (payload_found l (At i)) → (t : Bool) → eqb command 1 ≡ t → Parts (acted_on (At i))
+        (i : ℕ) → i < length l.payloads → 1 ≤ command → command ≤ 4 → is_busy l.job command (payload_found l (Some i)) ≡ false →
+        Conditioned l command (payload_found l (Some i)) → (t : Bool) → eqb command 1 ≡ t → Parts (acted_on (Some i))
     unload-or-begin i inside low high idle c true e =
         let one : command ≡ 1 = eqb-true command 1 e in
         rw e (unloaded l s i inside (c.status ∙ rw one) (rw one at idle))
     unload-or-begin i inside low high idle c false e = rw e (begun l s i inside command time low high e c idle)
 
     acted-sound :
-        Requested l name command → (f : Found) → with_name l name ≡ f → is_found f ≡ true → is_busy l.job command (payload_found l f) ≡ false →
+        Requested l name command → (f : Option ℕ) → with_name l name ≡ f → is_found f ≡ true → is_busy l.job command (payload_found l f) ≡ false →
         Conditioned l command (payload_found l f) → Parts (acted_on f)
     unfolding with_name
-    acted-sound q Nothing at found idle c = never found refl
-    acted-sound q (At i) at found idle c =
+    acted-sound q None at found idle c = never found refl
+    acted-sound q (Some i) at found idle c =
         let inside = (first-hit (λ p. equal p.name name) l.payloads no_payload i at).0 in
         unload-or-begin i inside q.low q.high idle c (eqb command 1) refl
 
-    conditions-sound : Requested l name command → condition_rules l command (named l name) ≡ Pass → Parts (acted l name command time)
+    conditions-sound : Requested l name command → condition_rules l command (named l name) ≡ Ok tt → Parts (acted l name command time)
     conditions-sound q met = acted-sound q (with_name l name) refl q.found q.free (conditioned l command (named l name) met)
 
 pub act-sound : (l : Model) (name : List ℕ) (command time : ℕ) → Parts l → Parts (act l name command time).model

@@ -1,13 +1,11 @@
 -- What holds of a list of payloads holds of another: with other statuses and results, and of what a stack and a job need of it.
+use Rattle.std.proofs.Common.{Some, None, Option, ℕ}
 use Prim.Native.Nat.{ℕ, ◌^◌, ◌<◌}
 use mathlib.Core.Path.{◌≡◌, refl, sym, ap, ◌∙◌}
 use mathlib.Core.Bool.{true}
 use mathlib.Core.List.{List, [], ◌∷◌, map}
-use mathlib.Core.Option.{Option, none, some}
 use lib.ListN.{get_or, set}
 use lib.Seq.{map-set_same}
-use Rattle.words.specs.declared.bytes.Found.{Found}
-use Rattle.words.specs.declared.bytes.Found.TheVariants.{At, Nothing}
 use Rattle.model.specs.Model.{Start, Loaded, Job, Model, no_payload}
 use Rattle.model.specs.Step.{with_payloads, with_status, with_result, changed_found, is_top}
 use Rattle.invariant.specs.Sound.{All, SoundPayload, Apart, HasStatus}
@@ -48,8 +46,8 @@ apart_bare ps qs e s =
 -- ---- what a stack and a job need
 
 abbrev pub KeptJob : List Loaded → List Loaded → Option Job → Type 0
-KeptJob ps qs none = Unit {0}
-KeptJob ps qs (some j) = Kept ps qs j.slot
+KeptJob ps qs None = Unit {0}
+KeptJob ps qs (Some j) = Kept ps qs j.slot
 
 is-top : (stack : List ℕ) (p q : Loaded) → q.slot ≡ p.slot → is_top stack p ≡ true → is_top stack q ≡ true
 is-top [] p q e h = h
@@ -64,8 +62,8 @@ module _ (ps qs : List Loaded) (stack : List ℕ) (k : All (Kept ps qs) stack) w
       by-slot (x ∷ xs) k s = (k.0.held ∙ s.0, by-slot xs k.1 s.1)
 
   pub job-kept : (a : Start) (o : Option Job) → KeptJob ps qs o → JobsParts a ps stack o → JobsParts a qs stack o
-  job-kept a none h s = tt
-  job-kept a (some j) h s =
+  job-kept a None h s = tt
+  job-kept a (Some j) h s =
       record {
         action_low = s.action_low;
         action_high = s.action_high;
@@ -79,8 +77,8 @@ module _ (ps qs : List Loaded) (stack : List ℕ) (k : All (Kept ps qs) stack) w
       }
 
   pub expected-kept : (o : Option Job) → KeptJob ps qs o → expected_in qs stack o ≡ expected_in ps stack o
-  expected-kept none h = edits-kept ps qs stack k
-  expected-kept (some j) h = done-kept ps qs stack j.action j.slot k h j.steps
+  expected-kept None h = edits-kept ps qs stack k
+  expected-kept (Some j) h = done-kept ps qs stack j.action j.slot k h j.steps
 
 -- with other statuses and results it has all that they need
 pub all-kept : (ps qs : List Loaded) → map bare qs ≡ map bare ps → (stack : List ℕ) → All (Kept ps qs) stack
@@ -88,26 +86,26 @@ all-kept ps qs e [] = tt
 all-kept ps qs e (slot ∷ older) = (kept-bare ps qs e slot, all-kept ps qs e older)
 
 pub kept-job : (ps qs : List Loaded) → map bare qs ≡ map bare ps → (o : Option Job) → KeptJob ps qs o
-kept-job ps qs e none = tt
-kept-job ps qs e (some j) = kept-bare ps qs e j.slot
+kept-job ps qs e None = tt
+kept-job ps qs e (Some j) = kept-bare ps qs e j.slot
 
 -- ---- other results
 
 -- the list with the result of the payload found
-abbrev pub resulted : ℕ → List Loaded → Found → List Loaded
-resulted n ps (At i) = set ps i (with_result n (get_or ps i no_payload))
-resulted n ps Nothing = ps
+abbrev pub resulted : ℕ → List Loaded → Option ℕ → List Loaded
+resulted n ps (Some i) = set ps i (with_result n (get_or ps i no_payload))
+resulted n ps None = ps
 
-pub changed-is : (n : ℕ) (l : Model) (f : Found) → changed_found (with_result n) l f ≡ with_payloads (resulted n l.payloads f) l
-changed-is n l (At i) = refl
-changed-is n l Nothing = refl
+pub changed-is : (n : ℕ) (l : Model) (f : Option ℕ) → changed_found (with_result n) l f ≡ with_payloads (resulted n l.payloads f) l
+changed-is n l (Some i) = refl
+changed-is n l None = refl
 
 abbrev pub SameButResult : List Loaded → List Loaded → Type 0
 SameButResult ps qs = map (with_result 0) qs ≡ map (with_result 0) ps
 
-pub result-only : (n : ℕ) (ps : List Loaded) (f : Found) → SameButResult ps (resulted n ps f)
-result-only n ps (At i) = map-set_same (with_result 0) ps i _ no_payload refl
-result-only n ps Nothing = refl
+pub result-only : (n : ℕ) (ps : List Loaded) (f : Option ℕ) → SameButResult ps (resulted n ps f)
+result-only n ps (Some i) = map-set_same (with_result 0) ps i _ no_payload refl
+result-only n ps None = refl
 
 bare-result : (ps : List Loaded) → map (with_status 0) (map (with_result 0) ps) ≡ map bare ps
 bare-result [] = refl
@@ -151,5 +149,5 @@ results-kept l qs same s =
     (result-statuses l.payloads qs same l.stack s.statuses)
 
 -- with the result of the payload found
-pub result-kept : (n : ℕ) (l : Model) (f : Found) → Parts l → Parts (with_payloads (resulted n l.payloads f) l)
+pub result-kept : (n : ℕ) (l : Model) (f : Option ℕ) → Parts l → Parts (with_payloads (resulted n l.payloads f) l)
 result-kept n l f s = results-kept l (resulted n l.payloads f) (result-only n l.payloads f) s

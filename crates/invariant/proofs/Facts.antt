@@ -1,10 +1,10 @@
 -- What a sound model tells: the payload in a slot that is taken is sound; how much there can be of payloads, stack and steps of a job; and what a
 -- work step leaves laid.
+use Rattle.std.proofs.Common.{Some}
 use Prim.Native.Nat.{ℕ, ◌+◌, ◌*◌, ◌≤◌, ◌<◌}
 use mathlib.Core.Path.{◌≡◌, refl, sym, ap, ◌∙◌}
 use mathlib.Core.Bool.{true}
 use mathlib.Core.List.{List, [], ◌∷◌}
-use mathlib.Core.Option.{some}
 use native.Mathlib.Omega.{arith}
 use borrow.Author.Tests.{eqb-false}
 use lib.Dec.{eqb}
@@ -107,7 +107,7 @@ depth-few {l} s = stack-loaded l.start l.payloads s.payloads l.stack (parts l s)
 pub edits-counted : (l : Model) (slots : List ℕ) → length (stack_edits l slots) ≡ edit_count l slots
 edits-counted l slots = ap length (edits-in l slots) ∙ sym (count-in l slots)
 
-module _ {l : Model} {j : Job} (s : Sound l) (e : l.job ≡ some j) where
+module _ {l : Model} {j : Job} (s : Sound l) (e : l.job ≡ Some j) where
   pub depth-fewer : (j.action ≡ 2 → ⊥) → length l.stack < length l.payloads
   depth-fewer other =
       let p = parts l s in

@@ -1,4 +1,5 @@
 -- Lists: what holds of every element, whether some element passes a test, and how many different numbers a list can have.
+use Rattle.std.proofs.Common.{Some, Option, ℕ}
 use Prim.Native.Nat.{ℕ, zero, suc, ◌≤◌, ◌<◌}
 use mathlib.Core.Path.{◌≡◌, refl, sym, ap, ◌∙◌, subst}
 use mathlib.Core.Bool.{Bool, true, false, cond, true≢false}
@@ -9,8 +10,6 @@ use lib.Dec.{eqb}
 use lib.ListN.{length, get_or, take, drop}
 use Rattle.words.specs.Find.{where_from}
 use Rattle.words.specs.Name.{is_found}
-use Rattle.words.specs.declared.bytes.Found.{Found}
-use Rattle.words.specs.declared.bytes.Found.TheVariants.{At}
 use Rattle.invariant.specs.Sound.{All, Missing, Different}
 
 -- no test both holds and fails
@@ -69,7 +68,7 @@ module _ {A : Type 0} (test : A → Bool) where
   any [] = false
   any (x ∷ xs) = cond (test x) true (any xs)
 
-  found-if : (t : Bool) (i : ℕ) (f : Found) (b : Bool) → is_found f ≡ b → is_found (cond t (At i) f) ≡ cond t true b
+  found-if : (t : Bool) (i : ℕ) (f : Option ℕ) (b : Bool) → is_found f ≡ b → is_found (cond t (Some i) f) ≡ cond t true b
   found-if true i f b e = refl
   found-if false i f b e = e
 

@@ -1,17 +1,16 @@
 -- A sound model by its parts, said of its lists: what is left to show of a model is the parts, and that its edits fit and are laid once follows.
+use Rattle.records.specs.Refusal.{Verdict}
+use Rattle.std.proofs.Common.{Ok, Err, Option, None, Some}
 use Prim.Native.Nat.{ℕ, ◌-◌, ◌≤◌, ◌<◌, ◌^◌, min}
 use mathlib.Core.Path.{◌≡◌, refl, sym, ◌∙◌}
 use mathlib.Core.Bool.{true, false}
 use mathlib.Core.List.{List}
-use mathlib.Core.Option.{Option, none, some}
 use native.Mathlib.Omega.{arith}
 use borrow.Author.Tests.{eqb-false}
 use lib.Dec.{eqb}
 use lib.ListN.{length, drop}
 use Rattle.records.specs.Verdict.{decide}
 use Rattle.records.specs.declared.refusal.Refusal.{Refusal}
-use Rattle.records.specs.declared.refusal.Verdict.{Verdict}
-use Rattle.records.specs.declared.refusal.Verdict.TheVariants.{Pass, Refuse}
 use Rattle.model.specs.Model.{Start, Loaded, Laid, Job, Model}
 use Rattle.model.specs.Step.{is_top, is_complete, Told}
 use Rattle.invariant.specs.Done.{first_edits, expected}
@@ -50,12 +49,12 @@ pub record JobParts (a : Start) (ps : List Loaded) (stack : List ℕ) (j : Job) 
   pub gathering : is_complete j ≡ false → j.steps ≡ 0
 
 abbrev pub JobsParts : Start → List Loaded → List ℕ → Option Job → Type 0
-JobsParts a ps stack none = Unit {0}
-JobsParts a ps stack (some j) = JobParts a ps stack j
+JobsParts a ps stack None = Unit {0}
+JobsParts a ps stack (Some j) = JobParts a ps stack j
 
 abbrev pub expected_in : List Loaded → List ℕ → Option Job → List Laid
-expected_in ps stack none = edits_in ps stack
-expected_in ps stack (some j) = done ps stack j.action j.slot j.steps
+expected_in ps stack None = edits_in ps stack
+expected_in ps stack (Some j) = done ps stack j.action j.slot j.steps
 
 pub record Parts (l : Model) : Type 0 where
   pub start : SoundStart l.start
@@ -100,16 +99,16 @@ module _ (l : Model) where
       }
 
   jobs-parts : (o : Option Job) → SoundJobs l o → JobsParts l.start l.payloads l.stack o
-  jobs-parts none s = tt
-  jobs-parts (some j) s = job-parts j s
+  jobs-parts None s = tt
+  jobs-parts (Some j) s = job-parts j s
 
   sound-jobs : (o : Option Job) → JobsParts l.start l.payloads l.stack o → SoundJobs l o
-  sound-jobs none s = tt
-  sound-jobs (some j) s = sound-job j s
+  sound-jobs None s = tt
+  sound-jobs (Some j) s = sound-job j s
 
   expected-in : (o : Option Job) → expected l o ≡ expected_in l.payloads l.stack o
-  expected-in none = edits-in l l.stack
-  expected-in (some j) = done-in l j j.steps
+  expected-in None = edits-in l l.stack
+  expected-in (Some j) = done-in l j j.steps
 
   pub parts : Sound l → Parts l
   parts s =
@@ -150,8 +149,8 @@ module _ (a : Start) (ps : List Loaded) (stack : List ℕ) (j : Job) (s : JobPar
 
 module _ (a : Start) (ps : List Loaded) (stack : List ℕ) (sound : All (SoundPayload a) ps) (stacked : Stacked ps stack) (different : Different stack) where
   fitting-in : (o : Option Job) → JobsParts a ps stack o → All (FittingLaid (length a.text)) (expected_in ps stack o)
-  fitting-in none s = stack-fit a ps sound stack stacked
-  fitting-in (some j) s =
+  fitting-in None s = stack-fit a ps sound stack stacked
+  fitting-in (Some j) s =
       let own = all-pick (is_in j.slot) (SoundPayload a) ps sound s.loaded in
       let k : ℕ = taken_count a ps stack j s in
       all_append _ (first_edits (in_slot j.slot ps) (laid_count a ps stack j s)) (drop k (edits_in ps stack))
@@ -159,8 +158,8 @@ module _ (a : Start) (ps : List Loaded) (stack : List ℕ) (sound : All (SoundPa
       (all_drop _ k (edits_in ps stack) (stack-fit a ps sound stack stacked))
 
   once-in : (o : Option Job) → JobsParts a ps stack o → Once (expected_in ps stack o)
-  once-in none s = stack-once ps stack different stacked
-  once-in (some j) s =
+  once-in None s = stack-once ps stack different stacked
+  once-in (Some j) s =
       let all = stack-once ps stack different stacked in
       by-test (eqb j.action 2)
       (λ e. rw (revert-lays a ps stack j s e, first-none (in_slot j.slot ps)) (once-drop (taken_count a ps stack j s) (edits_in ps stack) all))
@@ -184,7 +183,7 @@ sound l s =
 
 -- a call that is decided by rules keeps the parts where a refusal and an acceptance do
 pub decided :
-    (refused : Refusal → Told) (accepted : Told) (v : Verdict) → ((r : Refusal) → Parts (refused r).model) → (v ≡ Pass → Parts accepted.model) →
+    (refused : Refusal → Told) (accepted : Told) (v : Verdict) → ((r : Refusal) → Parts (refused r).model) → (v ≡ Ok tt → Parts accepted.model) →
     Parts (decide refused accepted v).model
-decided refused accepted Pass no_way way = way refl
-decided refused accepted (Refuse r) no_way way = no_way r
+decided refused accepted (Ok _) no_way way = way refl
+decided refused accepted (Err r) no_way way = no_way r

@@ -1,9 +1,9 @@
 -- A report and a tick keep a sound model sound.
+use Rattle.std.proofs.Common.{Option, None, Some}
 use Prim.Native.Nat.{ℕ, zero, suc, ◌-◌, ◌≤◌, ◌<◌}
 use mathlib.Core.Path.{◌≡◌, ◌∙◌, subst⁻¹}
 use mathlib.Core.Bool.{Bool, true, false}
 use mathlib.Core.List.{List, [], ◌∷◌}
-use mathlib.Core.Option.{Option, none, some}
 use native.Mathlib.Omega.{arith}
 use borrow.Author.Tests.{eqb-false}
 use lib.Dec.{eqb, ltb}
@@ -81,35 +81,35 @@ module _ (a : Start) (ps : List Loaded) (stack : List ℕ) (j : Job) (s : JobPar
 
 -- ---- the calls
 
-module _ (l : Model) (s : Parts l) (j : Job) (e : l.job ≡ some j) where
+module _ (l : Model) (s : Parts l) (j : Job) (e : l.job ≡ Some j) where
   -- what stands of the job
   pub job_of : JobParts l.start l.payloads l.stack j
   job_of = rw e at s.job
 
-  pub laid_of : l.laid ≡ expected_in l.payloads l.stack (some j)
+  pub laid_of : l.laid ≡ expected_in l.payloads l.stack (Some j)
   laid_of = rw e at s.laid
 
   timed-out : is_complete j ≡ false → Parts (timed_out l j)
   timed-out h =
       let found = with_slot l j.slot in
-      let before = with-job l s none tt (laid_of ∙ none_done _ _ _ j job_of h) in
-      subst⁻¹ (λ (m : Model). Parts (with_job none m)) (changed-is 16 l found) (result-kept 16 (with_job none l) found before)
+      let before = with-job l s None tt (laid_of ∙ none_done _ _ _ j job_of h) in
+      subst⁻¹ (λ (m : Model). Parts (with_job None m)) (changed-is 16 l found) (result-kept 16 (with_job None l) found before)
 
-  time-taken : (j.time ≡ 1 → ⊥) → Parts (with_job (some (with_time (j.time - 1) j)) l)
-  time-taken more = with-job l s (some (with_time (j.time - 1) j)) (ticked _ _ _ j job_of more) laid_of
+  time-taken : (j.time ≡ 1 → ⊥) → Parts (with_job (Some (with_time (j.time - 1) j)) l)
+  time-taken more = with-job l s (Some (with_time (j.time - 1) j)) (ticked _ _ _ j job_of more) laid_of
 
-  tick-by : Parts (tick_with l (some j)).model
+  tick-by : Parts (tick_with l (Some j)).model
   tick-by =
       by-test (is_complete j)
       (λ h. rw h s)
       (λ h. rw h (by-test (eqb j.time 1) (λ g. rw g (timed-out h)) (λ g. rw g (time-taken (eqb-false j.time 1 g)))))
 
 pub report-sound : (l : Model) (o : Option Job) (cpu : ℕ) → l.job ≡ o → Parts l → Parts (report_with l o cpu).model
-report-sound l none cpu e s = s
-report-sound l (some j) cpu e s =
+report-sound l None cpu e s = s
+report-sound l (Some j) cpu e s =
     decided _ _ (must (ltb cpu l.start.cpus) 22 Nowhere) (λ r. s)
-    (λ h. with-job l s (some (with_held cpu j)) (reported _ _ _ j (job_of l s j e) cpu) (laid_of l s j e))
+    (λ h. with-job l s (Some (with_held cpu j)) (reported _ _ _ j (job_of l s j e) cpu) (laid_of l s j e))
 
 pub tick-sound : (l : Model) (o : Option Job) → l.job ≡ o → Parts l → Parts (tick_with l o).model
-tick-sound l none e s = s
-tick-sound l (some j) e s = tick-by l s j e
+tick-sound l None e s = s
+tick-sound l (Some j) e s = tick-by l s j e

@@ -1,4 +1,5 @@
 -- Payloads by their slots: what a search finds in a list, and in a list with one more payload, one fewer, or others' statuses and results.
+use Rattle.std.proofs.Common.{Some, None, Option, ℕ}
 use Prim.Native.Nat.{ℕ, zero, suc, ◌≤◌, ◌<◌}
 use mathlib.Core.Path.{◌≡◌, refl, sym, ◌∙◌}
 use mathlib.Core.Bool.{Bool, true, false, cond}
@@ -10,8 +11,6 @@ use lib.ListN.{length, get_or, take, drop, length-map}
 use lib.Seq.{take-nil}
 use Rattle.words.specs.Find.{where_from, first_where}
 use Rattle.words.specs.Name.{is_found}
-use Rattle.words.specs.declared.bytes.Found.{Found}
-use Rattle.words.specs.declared.bytes.Found.TheVariants.{At, Nothing}
 use Rattle.memory.specs.Memory.{slot_count}
 use Rattle.model.specs.Model.{Loaded, Model, no_payload}
 use Rattle.model.specs.Step.{with_slot, payload_found, payload_in, with_status, with_result}
@@ -37,22 +36,22 @@ use Rattle.invariant.proofs.Lists.{
 
 -- ---- the first payload that passes a test
 
-abbrev at : List Loaded → Found → Loaded
-at ps (At i) = get_or ps i no_payload
-at ps Nothing = no_payload
+abbrev at : List Loaded → Option ℕ → Loaded
+at ps (Some i) = get_or ps i no_payload
+at ps None = no_payload
 
-payload-at : (l : Model) (f : Found) → payload_found l f ≡ at l.payloads f
-payload-at l (At i) = refl
-payload-at l Nothing = refl
+payload-at : (l : Model) (f : Option ℕ) → payload_found l f ≡ at l.payloads f
+payload-at l (Some i) = refl
+payload-at l None = refl
 
 -- found in the list behind a payload
-abbrev later : Found → Found
-later (At i) = At (suc i)
-later Nothing = Nothing
+abbrev later : Option ℕ → Option ℕ
+later (Some i) = Some (suc i)
+later None = None
 
-at-later : (p : Loaded) (ps : List Loaded) (f : Found) → at (p ∷ ps) (later f) ≡ at ps f
-at-later p ps (At i) = refl
-at-later p ps Nothing = refl
+at-later : (p : Loaded) (ps : List Loaded) (f : Option ℕ) → at (p ∷ ps) (later f) ≡ at ps f
+at-later p ps (Some i) = refl
+at-later p ps None = refl
 
 module _ (test : Loaded → Bool) where
   abbrev pub pick : List Loaded → Loaded

@@ -1,9 +1,9 @@
 -- An upload keeps a sound model sound: what an accepted payload has, and a list with one more.
+use Rattle.std.proofs.Common.{Some, None, Option, ℕ, Ok}
 use Prim.Native.Nat.{ℕ, zero, suc, ◌+◌, ◌≤◌, ◌<◌}
 use mathlib.Core.Path.{◌≡◌, refl, sym, ◌∙◌}
 use mathlib.Core.Bool.{true, false, cond, not}
 use mathlib.Core.List.{List, [], ◌∷◌, ◌++◌}
-use mathlib.Core.Option.{Option, none, some}
 use native.Mathlib.Omega.{arith}
 use lib.Dec.{eqb}
 use lib.ListN.{length, take, replicate, length-replicate}
@@ -11,8 +11,6 @@ use lib.Seq.{length-take-le, get_or-take}
 use Rattle.words.specs.Name.{is_found}
 use Rattle.words.specs.Scan.{scan}
 use Rattle.words.specs.Splice.{part, splice}
-use Rattle.words.specs.declared.bytes.Found.{Found}
-use Rattle.words.specs.declared.bytes.Found.TheVariants.{At, Nothing}
 use Rattle.words.proofs.Scan.{length-filled}
 use Rattle.words.proofs.Splice.{length_part, length-splice}
 use Rattle.records.specs.Limits.{id_min, id_max, records_max}
@@ -21,7 +19,6 @@ use Rattle.records.specs.Payload.{no_edit}
 use Rattle.records.specs.Verdict.{must}
 use Rattle.records.specs.declared.payload.Edit.{Edit}
 use Rattle.records.specs.declared.refusal.Place.TheVariants.{Nowhere}
-use Rattle.records.specs.declared.refusal.Verdict.TheVariants.{Pass}
 use Rattle.records.proofs.Checks.{must-pass, then-pass}
 use Rattle.symbols.specs.SymbolList.{valid}
 use Rattle.elf.specs.Layout.{note_head_size}
@@ -61,7 +58,7 @@ use Rattle.invariant.proofs.Carried.{KeptJob, relisted}
 
 module _ (l : Model) where
   free-from :
-      (i k e : ℕ) → scan (λ slot rest. cond (is_found (with_slot l slot)) rest (At slot)) Nothing i k ≡ At e →
+      (i k e : ℕ) → scan (λ slot rest. cond (is_found (with_slot l slot)) rest (Some slot)) None i k ≡ Some e →
       (e < i + k) × (is_found (with_slot l e) ≡ false)
   unfolding scan
   free-from i zero e h =
@@ -72,15 +69,15 @@ module _ (l : Model) where
       (λ t. let f = free-from (suc i) k e (rw t at h) in (omega arith, f.1))
       (λ t. free-here (rw t at h) t)
     where
-      free-here : At i ≡ At e → is_found (with_slot l i) ≡ false → (e < i + suc k) × (is_found (with_slot l e) ≡ false)
+      free-here : Some i ≡ Some e → is_found (with_slot l i) ≡ false → (e < i + suc k) × (is_found (with_slot l e) ≡ false)
       free-here here t = let same : i ≡ e = cc in (omega arith, rw same at t)
 
-  pub slot-free : (f : Found) → free_slot l ≡ f → is_found f ≡ true → (slot_in f < slot_count) × (is_found (with_slot l (slot_in f)) ≡ false)
+  pub slot-free : (f : Option ℕ) → free_slot l ≡ f → is_found f ≡ true → (slot_in f < slot_count) × (is_found (with_slot l (slot_in f)) ≡ false)
   unfolding free_slot
-  slot-free (At e) h g =
+  slot-free (Some e) h g =
       let f = free-from 0 slot_count e h in
       (omega arith, f.1)
-  slot-free Nothing h g = never g refl
+  slot-free None h g = never g refl
 
 -- ---- what an accepted payload has
 
@@ -104,17 +101,17 @@ id-sized note ok =
     let whole : n ≤ length zeros = rw (length-replicate {A = ℕ} id_max 0) sized.2 in
     rw (length_front n zeros (part note note_head_size n) (length_part note note_head_size n room) whole) (sized.1, sized.2)
 
-module _ (a : Start) (slot : ℕ) (list file : List ℕ) (passes : payload_rules (setting (host_for a slot) list) file ≡ Pass) where
+module _ (a : Start) (slot : ℕ) (list file : List ℕ) (passes : payload_rules (setting (host_for a slot) list) file ≡ Ok tt) where
   abbrev t : Setting
   t = setting (host_for a slot) list
 
-  reads : read_rules (machine_at t) file ≡ Pass
+  reads : read_rules (machine_at t) file ≡ Ok tt
   reads = (then-pass (read_rules (machine_at t) file) (build_rules t file) passes).0
 
-  builds : build_rules t file ≡ Pass
+  builds : build_rules t file ≡ Ok tt
   builds = (then-pass (read_rules (machine_at t) file) (build_rules t file) passes).1
 
-  table : table_rules file (sections file) (section_count file) ≡ Pass
+  table : table_rules file (sections file) (section_count file) ≡ Ok tt
   unfolding read_rules
   table = (then-pass (name_table_rules file) _ (then-pass (header_rules (machine_at t) file) _ reads).1).1
 
@@ -183,8 +180,8 @@ module _ (l : Model) (s : Parts l) (q : Loaded) (good : SoundPayload l.start q) 
   stack-more (x ∷ xs) h = (kept-behind l.payloads (q ∷ []) x h.0, stack-more xs h.1)
 
   job-more : (o : Option Job) → JobsParts l.start l.payloads l.stack o → KeptJob l.payloads more o
-  job-more none h = tt
-  job-more (some j) h = kept-behind l.payloads (q ∷ []) j.slot h.loaded
+  job-more None h = tt
+  job-more (Some j) h = kept-behind l.payloads (q ∷ []) j.slot h.loaded
 
   -- the stack's slots are taken, so the free one is not among them
   not-stacked : is_applied l.stack q ≡ false
@@ -202,7 +199,7 @@ module _ (l : Model) (s : Parts l) (q : Loaded) (good : SoundPayload l.start q) 
 
 -- the rules have passed
 accepted :
-    (l : Model) (name list file : List ℕ) → Parts l → upload_rules l name list file ≡ Pass →
+    (l : Model) (name list file : List ℕ) → Parts l → upload_rules l name list file ≡ Ok tt →
     Parts (with_list (l.payloads ++ (loaded_from l name list file ∷ [])) l)
 unfolding upload_rules loaded_from
 accepted l name list file s h =

@@ -1,9 +1,9 @@
 -- A work step keeps a sound model sound: the edits laid after it are those of one step more, and after the last step those of the new stack.
+use Rattle.std.proofs.Common.{Option, None, Some}
 use Prim.Native.Nat.{ℕ, suc, ◌+◌, ◌-◌, ◌≤◌, ◌<◌, min}
 use mathlib.Core.Path.{◌≡◌, refl, sym, ap, ◌∙◌, subst⁻¹}
 use mathlib.Core.Bool.{true, false, cond}
 use mathlib.Core.List.{List, [], ◌∷◌, map}
-use mathlib.Core.Option.{Option, none, some}
 use native.Mathlib.Omega.{arith}
 use borrow.Author.Tests.{ltb-true, ltb-false, eqb-true, eqb-false, eq-eqb, ne_eqb}
 use lib.Dec.{eqb, ltb}
@@ -157,7 +157,7 @@ status-set stack (p ∷ ps) = (refl, status-set stack ps)
 
 -- ---- the call
 
-module _ (l : Model) (s : Parts l) (j : Job) (e : l.job ≡ some j) where
+module _ (l : Model) (s : Parts l) (j : Job) (e : l.job ≡ Some j) where
   abbrev stands : JobParts l.start l.payloads l.stack j
   stands = job_of l s j e
 
@@ -172,7 +172,7 @@ module _ (l : Model) (s : Parts l) (j : Job) (e : l.job ≡ some j) where
       ∙ all_done l.start l.payloads l.stack j stands
 
   -- not the last step
-  goes_on : is_complete j ≡ true → (j.steps + 1 ≡ step_count l j → ⊥) → Parts (with_job (some (with_steps (j.steps + 1) j)) (with_laid (laid_after l j) l))
+  goes_on : is_complete j ≡ true → (j.steps + 1 ≡ step_count l j → ⊥) → Parts (with_job (Some (with_steps (j.steps + 1) j)) (with_laid (laid_after l j) l))
   goes_on complete more =
       record {
         start = s.start;
@@ -199,7 +199,7 @@ module _ (l : Model) (s : Parts l) (j : Job) (e : l.job ≡ some j) where
       let qs : List Loaded = with_statuses stack rs in
       let same : map bare qs ≡ map bare l.payloads = status-bare stack rs ∙ result-bare l.payloads rs (result-only 0 l.payloads found) in
       let kept = all-kept l.payloads qs same stack in
-      subst⁻¹ (λ (m : Model). Parts (with_job none (with_stack stack (with_payloads (with_statuses stack m.payloads) m)))) (changed-is 0 after found)
+      subst⁻¹ (λ (m : Model). Parts (with_job None (with_stack stack (with_payloads (with_statuses stack m.payloads) m)))) (changed-is 0 after found)
       record {
         start = s.start;
         version = s.version;
@@ -216,9 +216,9 @@ module _ (l : Model) (s : Parts l) (j : Job) (e : l.job ≡ some j) where
   step-sound h =
       by-test (eqb (j.steps + 1) (step_count l j)) (λ g. rw g (ends (eqb-true _ _ g))) (λ g. rw g (goes_on h (eqb-false _ _ g)))
 
-  work-by : Parts (work_with l (some j)).model
+  work-by : Parts (work_with l (Some j)).model
   work-by = by-test (is_complete j) (λ h. rw h (step-sound h)) (λ h. rw h s)
 
 pub work-sound : (l : Model) (o : Option Job) → l.job ≡ o → Parts l → Parts (work_with l o).model
-work-sound l none e s = s
-work-sound l (some j) e s = work-by l s j e
+work-sound l None e s = s
+work-sound l (Some j) e s = work-by l s j e

@@ -1,6 +1,5 @@
 -- The edits that are laid, said of the stack and the job: what the sequence claim's parts speak of.
-use Rattle.std.specs.Prelude.{ℕ, ◌-◌, min, List, [], ◌∷◌, ◌++◌, length, drop}
-use Rattle.std.proofs.Math.Option.{Option, none, some}
+use Rattle.std.specs.Prelude.{ℕ, ◌-◌, min, List, [], ◌∷◌, ◌++◌, length, drop, Option, None, Some}
 use Rattle.words.specs.Scan.{each}
 use Rattle.model.specs.Model.{Loaded, Laid, Job, Model}
 use Rattle.model.specs.Step.{payload_in, laid_from, removal_count}
@@ -27,5 +26,5 @@ done_after l j k =
 
 -- what is laid now
 abbrev pub expected : Model → Option Job → List Laid
-expected l none = stack_edits l l.stack
-expected l (some j) = done_after l j j.steps
+expected l None = stack_edits l l.stack
+expected l (Some j) = done_after l j j.steps

@@ -1,6 +1,5 @@
 -- What the model's jobs do: the named parts of the claim about any sequence of calls.
-use Rattle.std.specs.Prelude.{ℕ, ◌+◌, ◌*◌, ◌≤◌, ◌≡◌, true, false, ◌⊎◌, ◌↔◌, replicate}
-use Rattle.std.proofs.Math.Option.{Option, none, some}
+use Rattle.std.specs.Prelude.{ℕ, ◌+◌, ◌*◌, ◌≤◌, ◌≡◌, true, false, ◌⊎◌, ◌↔◌, replicate, Option, None, Some}
 use Rattle.records.specs.Limits.{records_max}
 use Rattle.memory.specs.Memory.{slot_count}
 use Rattle.model.specs.Calls.{Call, Work}
@@ -12,7 +11,7 @@ use Rattle.invariant.specs.Done.{stack_edits, done_after}
 -- the call is the last work step of a job whose rendezvous is complete: the stack is changed as a whole
 pub record LastStep (l : Model) (c : Call) : Type 0 where
   pub job : Job
-  pub stands : l.job ≡ some job
+  pub stands : l.job ≡ Some job
   pub work : c ≡ Work
   pub complete : is_complete job ≡ true
   pub last : job.steps + 1 ≡ step_count l job
@@ -20,8 +19,8 @@ pub record LastStep (l : Model) (c : Call) : Type 0 where
 
 -- no rendezvous is complete
 abbrev pub NoneComplete : Option Job → Type 0
-NoneComplete none = Unit {0}
-NoneComplete (some j) = is_complete j ≡ false
+NoneComplete None = Unit {0}
+NoneComplete (Some j) = is_complete j ≡ false
 
 pub record Jobs (l : Model) : Type 0 where
   -- the applied stack changes only at a job's last work step; so not on a time-out
@@ -29,10 +28,10 @@ pub record Jobs (l : Model) : Type 0 where
   -- while no rendezvous is complete, the text is the start-up text under the applied stack's edits, oldest first
   pub gathering : NoneComplete l.job → text_of l ≡ text_with l.start.text (stack_edits l l.stack)
   -- in a complete one, after k work steps exactly the job's first k removals and layings are done
-  pub working : (j : Job) → l.job ≡ some j → is_complete j ≡ true → l.laid ≡ done_after l j j.steps
+  pub working : (j : Job) → l.job ≡ Some j → is_complete j ≡ true → l.laid ≡ done_after l j j.steps
   -- there the job ends in as many work steps as it has edits to take off and lay,
   pub ending :
-      (j : Job) → l.job ≡ some j → is_complete j ≡ true → (n : ℕ) →
-      ((after l (replicate n Work)).job ≡ none) ↔ (step_count l j ≤ j.steps + n)
+      (j : Job) → l.job ≡ Some j → is_complete j ≡ true → (n : ℕ) →
+      ((after l (replicate n Work)).job ≡ None) ↔ (step_count l j ≤ j.steps + n)
   -- at most 256
-  pub few : (j : Job) → l.job ≡ some j → step_count l j ≤ slot_count * records_max
+  pub few : (j : Job) → l.job ≡ Some j → step_count l j ≤ slot_count * records_max

@@ -1,6 +1,5 @@
 -- What holds of the model after any calls from an accepted start-up.
-use Rattle.std.specs.Prelude.{ℕ, ◌+◌, ◌≤◌, ◌<◌, ◌^◌, ◌≡◌, Bool, true, false, cond, List, [], ◌∷◌, eqb, length}
-use Rattle.std.proofs.Math.Option.{Option, none, some}
+use Rattle.std.specs.Prelude.{ℕ, ◌+◌, ◌≤◌, ◌<◌, ◌^◌, ◌≡◌, Bool, true, false, cond, List, [], ◌∷◌, eqb, length, Option, None, Some}
 use Rattle.words.specs.Name.{is_found}
 use Rattle.words.specs.Find.{first_where}
 use Rattle.records.specs.Limits.{placed_max, id_max, records_max}
@@ -88,8 +87,8 @@ pub record SoundJob (l : Model) (j : Job) : Type 0 where
   pub gathering : is_complete j ≡ false → j.steps ≡ 0
 
 abbrev pub SoundJobs : Model → Option Job → Type 0
-SoundJobs l none = Unit {0}
-SoundJobs l (some j) = SoundJob l j
+SoundJobs l None = Unit {0}
+SoundJobs l (Some j) = SoundJob l j
 
 -- start-up's numbers
 pub record SoundStart (a : Start) : Type 0 where

@@ -14,14 +14,13 @@ ghost use Rattle.kinds.specs.Kinds.{
   plain_kind,
   kind_named,
   kind_of,
-  kind_code,
   is_note_kind,
 };
 
 use elf::SectionHeader;
 use words::bytes;
 
-#[derive(Clone, Copy)]
+#[derive(Clone, Copy, PartialEq, Eq)]
 pub enum Kind {
     // Type 0: ignored.
     Null,
@@ -45,41 +44,11 @@ pub enum Kind {
 }
 
 impl Kind {
-    // A number for each kind, by which kinds are compared.
-    pub fn code(self) -> u64
-        ensures { result ≡ kind_code self }
-    {
-        match self {
-            Kind::Null => 0,
-            Kind::Unnamed => 1,
-            Kind::Placed => 2,
-            Kind::Records => 3,
-            Kind::Depends => 4,
-            Kind::BuildId => 5,
-            Kind::Symbols => 6,
-            Kind::Strings => 7,
-            Kind::Relocations => 8,
-            Kind::Ignored => 9,
-            Kind::Unknown => 10,
-        }
-    }
-
     // Whether it is one of the two notes.
     pub fn is_note(self) -> bool
         ensures { result ≡ is_note_kind self }
     {
-        match self {
-            Kind::Depends | Kind::BuildId => true,
-            Kind::Null
-            | Kind::Unnamed
-            | Kind::Placed
-            | Kind::Records
-            | Kind::Symbols
-            | Kind::Strings
-            | Kind::Relocations
-            | Kind::Ignored
-            | Kind::Unknown => false,
-        }
+        matches!(self, Kind::Depends | Kind::BuildId)
     }
 }
 
@@ -227,7 +196,7 @@ pub fn kind_in(h: SectionHeader, table: &[u8]) -> Kind
     ensures { result ≡ kind_of h (name_in table.now h.sh_name) }
 {
     let start = h.sh_name as usize;
-    let bytes::Found::At(end) = elf::name_end(table, h.sh_name) else {
+    let Some(end) = elf::name_end(table, h.sh_name) else {
         return Kind::Unnamed;
     };
     kind_named(h, &table[start..end])

@@ -1,11 +1,9 @@
 -- Document 01, "Numbers to hold against it": K1 to K10, one table under one claim; and the sizes that follow from the limits.
-use Rattle.std.specs.Prelude.{ℕ, ◌≡◌, true, false, List, [], ◌∷◌, ◌++◌, replicate}
-use Rattle.std.proofs.Math.Option.{none}
+use Rattle.std.specs.Prelude.{ℕ, ◌≡◌, true, false, List, [], ◌∷◌, ◌++◌, replicate, Ok, None}
 use Rattle.words.specs.Splice.{splice}
 use Rattle.words.specs.Text.{ascii}
 use Rattle.records.specs.Verdict.{must}
 use Rattle.records.specs.declared.refusal.Place.TheVariants.{Nowhere}
-use Rattle.records.specs.declared.refusal.Verdict.TheVariants.{Pass}
 use Rattle.acceptance.specs.Known.{KnownAnswers}
 use Rattle.model.specs.Calls.{Buffers, Act, ListFrom, Says, Lists}
 use Rattle.model.specs.Model.{Loaded, Model}
@@ -23,7 +21,7 @@ p2 = ascii "p2" ++ (0 ∷ [])
 pub record Applied (l : Model) (first second : Loaded) : Type 0 where
   pub payloads : l.payloads ≡ first ∷ second ∷ []
   pub version : l.version ≡ 2
-  pub idle : l.job ≡ none
+  pub idle : l.job ≡ None
   pub first_name : first.name ≡ p1
   pub first_status : first.status ≡ 2
   pub first_result : first.result ≡ 0
@@ -49,4 +47,4 @@ pub record KnownTable : Type 0 where
   -- "K10 p1 applied, p2 checked, revert p2 gives 22; list(0, 8): 2 written, 0 left, version 2, 02 00 00 00 00 00 00 00 01 00 00 00 ea ff ff ff"
   pub k10 :
       (l : Model) (first second : Loaded) (time : ℕ) (b : Buffers) → Applied l first second → has_room 8 b ≡ true →
-      replies l (Act p2 2 time ∷ ListFrom 0 8 b ∷ []) ≡ Says (must false 22 Nowhere) ∷ Lists Pass 2 0 2 (listed b) ∷ []
+      replies l (Act p2 2 time ∷ ListFrom 0 8 b ∷ []) ≡ Says (must false 22 Nowhere) ∷ Lists (Ok tt) 2 0 2 (listed b) ∷ []

@@ -1,4 +1,5 @@
 -- What the layout and the cells say of a payload's symbols.
+use Rattle.std.proofs.Common.{Ok, Err, ℕ}
 use Prim.Native.Nat.{ℕ, ◌+◌, ◌*◌, ◌≤◌, ◌<◌}
 use mathlib.Core.Path.{◌≡◌, refl, sym, ap, ◌∙◌}
 use mathlib.Core.Bool.{Bool, true, false}
@@ -14,16 +15,15 @@ use Rattle.words.proofs.Tests.{both}
 use Rattle.records.specs.Limits.{sections_max}
 use Rattle.records.specs.Refusal.{reason_for}
 use Rattle.elf.specs.Layout.{symbol_size, symbol_of}
-use Rattle.elf.specs.Name.{name_in}
 use Rattle.elf.specs.declared.Symbol.{Symbol}
 use Rattle.placement.specs.Placement.{is_placed, offset_of, bound_for}
 use Rattle.placement.specs.declared.Layout.{Layout}
 use Rattle.placement.proofs.PlacementLaws.{offset-kept, bound-kept, bound-past}
 use Rattle.linking.specs.Linking.{Linking}
-use Rattle.linking.specs.Kept.{symbols_max, sought, sought_weak, value_told, Holds, decided, undecided, Kept, Stands}
-use Rattle.linking.specs.Symbols.{named_value, home_of, stands_in, defined_value, value_by, symbol_value}
-use Rattle.linking.specs.declared.values.SymbolValue.{SymbolValue}
-use Rattle.linking.specs.declared.values.SymbolValue.TheVariants.{Value, Refused}
+use Rattle.linking.specs.Kept.{symbols_max, cell_value, Kept, Stands}
+use Rattle.linking.specs.declared.kept.Cell.{Cell}
+use Rattle.linking.specs.declared.kept.Cell.TheVariants.{Known}
+use Rattle.linking.specs.Symbols.{home_of, stands_in, defined_value, value_by, symbol_value}
 
 -- ---- where a symbol of a section stands
 
@@ -64,17 +64,17 @@ module _ {l : Linking} {slot : ℕ} {layout : Layout} (stands : Stands l slot la
   -- a value below the bound, one that is not, and an index past every table
   pub defined-inside :
       s.st_value < bound_at layout s →
-      Value (wrapping_sum (wrapping_sum slot (offset_at layout s)) s.st_value) ≡ defined_value l s
+      Ok (wrapping_sum (wrapping_sum slot (offset_at layout s)) s.st_value) ≡ defined_value l s
   unfolding defined_value
   defined-inside h =
       let inside : stands_in l s ≡ true = stands-below ∙ lt-ltb _ _ h in
       rw (inside, offset-in (section-known inside), ← stands.address)
 
-  pub defined-outside : bound_at layout s ≤ s.st_value → Refused (reason_for 22) ≡ defined_value l s
+  pub defined-outside : bound_at layout s ≤ s.st_value → Err (reason_for 22) ≡ defined_value l s
   unfolding defined_value
   defined-outside h = rw (stands-below, le-ltb _ _ h)
 
-  pub defined-past : sections_max ≤ s.st_shndx → Refused (reason_for 22) ≡ defined_value l s
+  pub defined-past : sections_max ≤ s.st_shndx → Err (reason_for 22) ≡ defined_value l s
   defined-past h = defined-outside (rw (bound-outside (omega (arith, stands.few))) (omega arith))
 
 -- ---- a symbol other than 0, in its table and past it
@@ -86,54 +86,29 @@ module _ (l : Linking) {table : List ℕ} (same : l.symbols ≡ table) (number :
   value-in-table h =
       simp (ne_eqb number 0 some, ap length same, le-leb _ _ h) (ap (λ (t : List ℕ). value_by l (symbol_of t (symbol_size * number))) (sym same))
 
-  pub value-past-table : length table < symbol_size * number + symbol_size → Refused (reason_for 22) ≡ symbol_value l number
+  pub value-past-table : length table < symbol_size * number + symbol_size → Err (reason_for 22) ≡ symbol_value l number
   unfolding symbol_value
   value-past-table h = simp (ne_eqb number 0 some, ap length same, lt-leb _ _ h)
 
--- ---- what a symbol's cells say of it
+-- ---- what a symbol's cell says of it
 
-module _ {l : Linking} {v : SymbolValue} {state value : ℕ} where
-  -- a symbol that need not be looked up, and one that is to be
-  pub told : state < sought → Holds l v state value → value_told state value ≡ v
-  told h (decided g e) = e
-  told h (undecided e n) = absurd (omega arith)
+-- the cell of number i says what it is worth
+abbrev pub HoldsAt : Linking → List Cell → ℕ → Type 0
+HoldsAt l cells i = cell_value l.strings l.list (get_or cells i (Known 0)) ≡ symbol_value l i
 
-  pub looked-up : sought ≤ state → Holds l v state value → named_value (eqb state sought_weak) l.list (name_in l.strings value) ≡ v
-  looked-up h (decided g e) = absurd (omega arith)
-  looked-up h (undecided e n) = n
-
--- the cells with a symbol's two written
-abbrev pub written : List ℕ → ℕ → ℕ → ℕ → List ℕ
-written cells i state value = set (set cells (2 * i) state) (2 * i + 1) value
-
--- the cells of number i stand for it
-abbrev pub HoldsAt : Linking → List ℕ → ℕ → Type 0
-HoldsAt l cells i = Holds l (symbol_value l i) (get_or cells (2 * i) 0) (get_or cells (2 * i + 1) 0)
-
-module _ {l : Linking} (cells : List ℕ) (i state value : ℕ) (new : Holds l (symbol_value l i) state value) where
-  -- a symbol holds where its cells were written, and where it held before and they were not
+module _ (l : Linking) (cells : List Cell) (i : ℕ) (cell : Cell) (new : cell_value l.strings l.list cell ≡ symbol_value l i) where
+  -- a symbol holds where its cell was written, and where it held before and it was not
   pub holds-written :
-      2 * i + 1 < length cells → (j : ℕ) → ((j ≡ i → ⊥) → HoldsAt l cells j) → HoldsAt l (written cells i state value) j
+      i < length cells → (j : ℕ) → ((j ≡ i → ⊥) → HoldsAt l cells j) → HoldsAt l (set cells i cell) j
   holds-written fits j old = by_cases (eqb j i) refl
     where
-      by_cases : (b : Bool) → eqb j i ≡ b → HoldsAt l (written cells i state value) j
-      by_cases true e =
-          rw (
-            eqb-true j i e,
-            get_or-set_other (set cells (2 * i) state) (2 * i + 1) (2 * i) value 0 (λ e. omega arith),
-            get_or-set_same cells (2 * i) state 0 (omega arith),
-            get_or-set_same (set cells (2 * i) state) (2 * i + 1) value 0 (rw length-set fits),
-          ) new
+      by_cases : (b : Bool) → eqb j i ≡ b → HoldsAt l (set cells i cell) j
+      by_cases true e = rw (eqb-true j i e, get_or-set_same cells i cell (Known 0) fits) new
       by_cases false e =
           let other = eqb-false j i e in
-          rw (
-            get_or-set_other (set cells (2 * i) state) (2 * i + 1) (2 * j) value 0 (λ e. omega arith),
-            get_or-set_other cells (2 * i) (2 * j) state 0 (λ e. other (omega arith)),
-            get_or-set_other (set cells (2 * i) state) (2 * i + 1) (2 * j + 1) value 0 (λ e. other (omega arith)),
-            get_or-set_other cells (2 * i) (2 * j + 1) state 0 (λ e. omega arith),
-          ) (old other)
+          rw (get_or-set_other cells i j cell (Known 0) (λ e. other e)) (old other)
 
-  pub kept-written : i < symbols_max → Kept l cells → Kept l (written cells i state value)
+  pub kept-written : i < symbols_max → Kept l cells → Kept l (set cells i cell)
   kept-written h k = record {
     all = simp length-set k.all;
     short = k.short;

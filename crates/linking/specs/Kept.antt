@@ -1,55 +1,33 @@
--- A payload's symbols as they are kept while it is relocated: two numbers for each, its state and a value. A name is looked up at the
--- symbol's first use, and the address that was found is kept.
-use Rattle.std.specs.Prelude.{ℕ, ◌+◌, ◌*◌, ◌/◌, ◌≤◌, ◌<◌, ◌≡◌, cond, List, eqb, length, get_or}
+-- A payload's symbols as they are kept while it is relocated, a cell for each. A name is looked up at the symbol's first use, and the
+-- address that was found is kept.
+use Rattle.records.specs.declared.refusal.Reason.{Reason}
+use Rattle.std.specs.Prelude.{ℕ, ◌+◌, ◌/◌, ◌≤◌, ◌<◌, ◌≡◌, true, false, List, length, get_or, Ok, Err, Result}
 use Rattle.records.specs.Limits.{file_max, sections_max}
-use Rattle.records.specs.Refusal.{reason_for}
 use Rattle.elf.specs.Layout.{symbol_size}
 use Rattle.elf.specs.Name.{name_in}
 use Rattle.placement.specs.Placement.{layout_of}
 use Rattle.placement.specs.declared.Layout.{Layout}
 use Rattle.linking.specs.Linking.{Linking}
+use Rattle.linking.specs.declared.kept.Cell.{Cell}
+use Rattle.linking.specs.declared.kept.Cell.TheVariants.{Known, Refused, Named, NamedWeak}
 use Rattle.linking.specs.Symbols.{named_value, symbol_value}
-use Rattle.linking.specs.declared.values.SymbolValue.{SymbolValue}
-use Rattle.linking.specs.declared.values.SymbolValue.TheVariants.{Value, Refused}
 
 -- the symbols that a file of the largest size has room for, rounded up
 abbrev pub symbols_max : ℕ
 symbols_max = file_max / symbol_size + 1
 
--- the states of a symbol: the value is known; there is none, with 22; there is none, with 95; the name that stands at value is to be looked up,
--- of a symbol with another binding than weak and of a weak one
-abbrev pub known : ℕ
-known = 0
+-- what a cell says that its symbol is worth
+abbrev pub cell_value : List ℕ → List ℕ → Cell → Result ℕ Reason
+cell_value strings list (Known value) = Ok value
+cell_value strings list (Refused reason) = Err reason
+cell_value strings list (Named name) = named_value false list (name_in strings name)
+cell_value strings list (NamedWeak name) = named_value true list (name_in strings name)
 
-abbrev pub invalid : ℕ
-invalid = 1
-
-abbrev pub unsupported : ℕ
-unsupported = 2
-
-abbrev pub sought : ℕ
-sought = 3
-
-abbrev pub sought_weak : ℕ
-sought_weak = 4
-
--- what state and value tell of a symbol that need not be looked up
-abbrev pub value_told : ℕ → ℕ → SymbolValue
-value_told state value =
-    cond (eqb state known) (Value value)
-    (cond (eqb state unsupported) (Refused (reason_for 95))
-    (Refused (reason_for 22)))
-
--- state and value stand for a symbol that is worth v
-pub data Holds (l : Linking) (v : SymbolValue) (state value : ℕ) : Type 0 where
-  decided : state < sought → value_told state value ≡ v → Holds l v state value
-  undecided : sought ≤ state → named_value (eqb state sought_weak) l.list (name_in l.strings value) ≡ v → Holds l v state value
-
--- the cells, two for each number that a table in a file can have, stand for the symbols of l
-pub record Kept (l : Linking) (cells : List ℕ) : Type 0 where
-  pub all : length cells ≡ 2 * symbols_max
+-- the cells, one for each number that a table in a file can have, say what the symbols of l are worth
+pub record Kept (l : Linking) (cells : List Cell) : Type 0 where
+  pub all : length cells ≡ symbols_max
   pub short : length l.symbols ≤ file_max
-  pub each : (number : ℕ) → number < symbols_max → Holds l (symbol_value l number) (get_or cells (2 * number) 0) (get_or cells (2 * number + 1) 0)
+  pub each : (number : ℕ) → number < symbols_max → cell_value l.strings l.list (get_or cells number (Known 0)) ≡ symbol_value l number
 
 -- what is known of l where its symbols are read: the slot's address, and where the sections stand
 pub record Stands (l : Linking) (slot : ℕ) (layout : Layout) : Type 0 where
@@ -58,7 +36,7 @@ pub record Stands (l : Linking) (slot : ℕ) (layout : Layout) : Type 0 where
   pub places : layout_of l.sections l.count ≡ layout
 
 -- and where they are used: the string table and the symbol list
-pub record Sought (l : Linking) (cells strings list : List ℕ) : Type 0 where
+pub record Sought (l : Linking) (cells : List Cell) (strings list : List ℕ) : Type 0 where
   pub kept : Kept l cells
   pub names : l.strings ≡ strings
   pub listed : l.list ≡ list

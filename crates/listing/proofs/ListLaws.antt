@@ -1,4 +1,6 @@
 -- Entries of one width, one for each payload, written one after the other; and the list by what its rules say.
+use Rattle.records.specs.Refusal.{Verdict}
+use Rattle.std.proofs.Common.{Ok, Err}
 use Prim.Native.Nat.{ℕ, ◌+◌, ◌*◌, ◌-◌, ◌≤◌, ◌<◌}
 use mathlib.Core.Path.{◌≡◌, refl, sym, ap, ◌∙◌}
 use mathlib.Core.Bool.{true}
@@ -20,8 +22,6 @@ use Rattle.records.specs.Verdict.{must}
 use Rattle.records.specs.declared.payload.Payload.{Payload}
 use Rattle.records.specs.declared.refusal.Place.TheVariants.{Nowhere}
 use Rattle.records.specs.declared.refusal.Refusal.{Refusal}
-use Rattle.records.specs.declared.refusal.Verdict.{Verdict}
-use Rattle.records.specs.declared.refusal.Verdict.TheVariants.{Pass, Refuse}
 use Rattle.records.proofs.Checks.{must-pass, then-pass}
 use Rattle.memory.specs.Memory.{slot_count}
 use Rattle.state.specs.State.{loaded}
@@ -95,7 +95,7 @@ pub record Asked (s : State) (idx nr statuses names lengths : ℕ) : Type 0 wher
   pub room : Room nr statuses names lengths
 
 pub asked :
-    (s : State) (idx nr statuses names lengths : ℕ) → list_rules_for s idx nr statuses names lengths ≡ Pass → Asked s idx nr statuses names lengths
+    (s : State) (idx nr statuses names lengths : ℕ) → list_rules_for s idx nr statuses names lengths ≡ Ok tt → Asked s idx nr statuses names lengths
 unfolding list_rules_for
 asked s idx nr statuses names lengths h =
     let first = then-pass (must (in_range s) 22 Nowhere) _ h in
@@ -109,12 +109,12 @@ asked s idx nr statuses names lengths h =
 
 -- the list by what the rules said
 module _ (s : State) (idx nr : ℕ) (b : Buffers) {v : Verdict} (rules : v ≡ list_rules s idx nr b) where
-  pub refuses : {f : Refusal} → v ≡ Refuse f → listing (record { verdict = v; written = 0; left = 0; version = 0 }) b ≡ list_of s idx nr b
+  pub refuses : {f : Refusal} → v ≡ Err f → listing (Err f) b ≡ list_of s idx nr b
   unfolding list_of
   refuses said = rw (← rules, said)
 
   pub accepts :
-      {n : ℕ} {after : Buffers} → v ≡ Pass → n ≡ written_count s idx nr → after ≡ written_over (part (loaded s) idx n) b →
-      listing (record { verdict = v; written = n; left = s.count - idx - n; version = s.version }) after ≡ list_of s idx nr b
+      {n : ℕ} {after : Buffers} → v ≡ Ok tt → n ≡ written_count s idx nr → after ≡ written_over (part (loaded s) idx n) b →
+      listing (Ok (record { written = n; left = s.count - idx - n; version = s.version })) after ≡ list_of s idx nr b
   unfolding list_of
   accepts said counted after = rw (← rules, after, counted, said)

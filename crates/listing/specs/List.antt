@@ -1,5 +1,6 @@
 -- Document 01: "List(idx, nr) writes entries from idx, at most nr".
-use Rattle.std.specs.Prelude.{ℕ, ◌*◌, ◌-◌, min, Bool, ◌&&◌, List, [], ◌∷◌, ◌++◌, leb, length}
+use Rattle.records.specs.Refusal.{Verdict}
+use Rattle.std.specs.Prelude.{ℕ, ◌*◌, ◌-◌, min, Bool, ◌&&◌, List, [], ◌∷◌, ◌++◌, leb, length, Result, Ok, Err}
 use Rattle.words.specs.Number.{le_bytes}
 use Rattle.words.specs.Splice.{part, splice}
 use Rattle.records.specs.Limits.{name_max}
@@ -7,8 +8,6 @@ use Rattle.records.specs.Verdict.{must, ◌then◌, decide}
 use Rattle.records.specs.declared.payload.Payload.{Payload}
 use Rattle.records.specs.declared.refusal.Place.TheVariants.{Nowhere}
 use Rattle.records.specs.declared.refusal.Refusal.{Refusal}
-use Rattle.records.specs.declared.refusal.Verdict.{Verdict}
-use Rattle.records.specs.declared.refusal.Verdict.TheVariants.{Pass, Refuse}
 use Rattle.memory.specs.Memory.{slot_count}
 use Rattle.state.specs.State.{result_word, loaded}
 use Rattle.state.specs.declared.state.State.{State}
@@ -73,20 +72,16 @@ written_over ps b =
 
 -- the answer, and the three buffers after it
 pub record Listing : Type 0 where
-  pub answer : Listed
+  pub answer : Result Listed Refusal
   pub after : Buffers
 
-abbrev pub listing : Listed → Buffers → Listing
+abbrev pub listing : Result Listed Refusal → Buffers → Listing
 listing answer after = record { answer = answer; after = after }
-
-abbrev pub refused_list : Refusal → Listed
-refused_list r = record { verdict = Refuse r; written = 0; left = 0; version = 0 }
 
 -- "It returns count written, count left, version."
 abbrev pub accepted_list : State → ℕ → ℕ → Listed
 accepted_list s idx nr =
     record {
-      verdict = Pass;
       written = written_count s idx nr;
       left = s.count - idx - written_count s idx nr;
       version = s.version;
@@ -94,5 +89,5 @@ accepted_list s idx nr =
 
 unfoldable pub list_of : State → ℕ → ℕ → Buffers → Listing
 list_of s idx nr b =
-    decide (λ r. listing (refused_list r) b) (listing (accepted_list s idx nr) (written_over (listed_payloads s idx nr) b))
+    decide (λ r. listing (Err r) b) (listing (Ok (accepted_list s idx nr)) (written_over (listed_payloads s idx nr) b))
     (list_rules s idx nr b)

@@ -1,7 +1,7 @@
 // The list of payloads, in upload order.
 #![tactic(auto)]
 
-ghost use Rattle.std.specs.Prelude.{◌≡◌, ◌+◌, ◌*◌, ◌≤◌, min, length};
+ghost use Rattle.std.specs.Prelude.{◌≡◌, ◌+◌, ◌*◌, ◌≤◌, length};
 ghost use Rattle.words.specs.Splice.{part, splice};
 ghost use Rattle.records.specs.Limits.{name_max};
 ghost use Rattle.memory.specs.Memory.{slot_count};
@@ -22,25 +22,15 @@ ghost use Rattle.listing.specs.List.{
 use memory::config::Config;
 use queries::get;
 use records::payload::Payload;
-use records::refusal::{Place, Reason, Verdict};
+use records::refusal::{self, Place, Reason, Refusal};
 use state::state::State;
 
-// How many entries were written and how many are left after them, and the version; all 0 where the verdict refuses.
+// How many entries were written and how many are left after them, and the version.
 #[derive(Clone, Copy)]
 pub struct Listed {
-    pub verdict: Verdict,
     pub written: u32,
     pub left: u32,
     pub version: u32,
-}
-
-fn least(a: usize, b: usize) -> usize
-    ensures { result ≡ min a b }
-{
-    if a < b {
-        return a;
-    }
-    b
 }
 
 fn has_room(nr: usize, statuses: usize, names: usize, lengths: usize) -> bool
@@ -107,10 +97,8 @@ fn write_entries(
         ≡ written_over (part (loaded state) idx n)
         (buffers statuses.old names.old lengths.old) }
 {
-    let mut j = 0;
-    while j < n {
-        write_entry(state.payloads[idx + j], j, statuses, names, lengths);
-        j += 1;
+    for (j, payload) in state.payloads[idx..idx + n].iter().enumerate() {
+        write_entry(*payload, j, statuses, names, lengths);
     }
 }
 
@@ -122,22 +110,22 @@ fn check(
     statuses: usize,
     names: usize,
     lengths: usize,
-) -> Verdict
+) -> Result<(), Refusal>
     ensures { result ≡ list_rules_for state idx nr statuses names lengths }
 {
     if !ranges::ranges::in_range(state) {
-        return Verdict::refused(Reason::Invalid, Place::Nowhere);
+        return refusal::refused(Reason::Invalid, Place::Nowhere);
     }
     if Config::SLOTS < nr {
-        return Verdict::refused(Reason::TooMany, Place::Nowhere);
+        return refusal::refused(Reason::TooMany, Place::Nowhere);
     }
     if state.count < idx {
-        return Verdict::refused(Reason::Invalid, Place::Nowhere);
+        return refusal::refused(Reason::Invalid, Place::Nowhere);
     }
     if !has_room(nr, statuses, names, lengths) {
-        return Verdict::refused(Reason::Invalid, Place::Nowhere);
+        return refusal::refused(Reason::Invalid, Place::Nowhere);
     }
-    Verdict::Pass
+    Ok(())
 }
 
 // The entries from place `idx` on, at most `nr`, over the first bytes of the three buffers.
@@ -148,30 +136,21 @@ pub fn list(
     statuses: &mut [u8],
     names: &mut [u8],
     lengths: &mut [u8],
-) -> Listed
+) -> Result<Listed, Refusal>
     ensures { listing result (buffers statuses.new names.new lengths.new)
         ≡ list_of state idx nr (buffers statuses.old names.old lengths.old) }
 {
     let at = idx as usize;
     let most = nr as usize;
-    let verdict = check(state, at, most, statuses.len(), names.len(), lengths.len());
-    let Verdict::Pass = verdict else {
-        return Listed {
-            verdict,
-            written: 0,
-            left: 0,
-            version: 0,
-        };
-    };
+    check(state, at, most, statuses.len(), names.len(), lengths.len())?;
     let there = state.count - at;
-    let n = least(most, there);
+    let n = most.min(there);
     write_entries(state, at, n, statuses, names, lengths);
     let written = n as u32;
     let left = (there - n) as u32;
-    Listed {
-        verdict,
+    Ok(Listed {
         written,
         left,
         version: state.version,
-    }
+    })
 }

@@ -6,9 +6,8 @@ ghost use Rattle.words.specs.Order.{order_of, compared_bytes};
 ghost use Rattle.symbols.specs.SymbolList.{lookup, compared_entries};
 ghost use Rattle.lookups.specs.Numbers.{found_number, found_address, order_number};
 
-use symbols::Found;
+use std::cmp::Ordering;
 use words::bytes;
-use words::bytes::Order;
 
 // Looks a name up in a symbol list: 0 and its address, or 3 and no address, and how many entries were compared.
 #[unsafe(no_mangle)]
@@ -26,11 +25,11 @@ pub extern "C" fn lookups_find(
     *compared = search.compared as u64;
     let found = search.found;
     match found {
-        Found::Address(a) => {
+        Some(a) => {
             *address = a;
             0
         }
-        Found::Nothing => {
+        None => {
             *address = 0;
             3
         }
@@ -47,8 +46,8 @@ pub extern "C" fn lookups_compare(a: &[u8], b: &[u8], compared: &mut u64) -> u64
     *compared = comparison.compared as u64;
     let order = comparison.order;
     match order {
-        Order::Less => 0,
-        Order::Same => 1,
-        Order::Greater => 2,
+        Ordering::Less => 0,
+        Ordering::Equal => 1,
+        Ordering::Greater => 2,
     }
 }

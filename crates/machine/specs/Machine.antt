@@ -1,9 +1,9 @@
 -- What depends on the processor, and nothing else does: every other definition is handed a `Machine`.
-use Rattle.std.specs.Prelude.{ℕ, Bool, List}
+use Rattle.records.specs.declared.refusal.Reason.{Reason}
+use Rattle.std.specs.Prelude.{ℕ, Bool, List, Result}
 use Rattle.records.specs.declared.payload.Edit.{Edit}
 use Rattle.records.specs.declared.payload.EditKind.{EditKind}
 use Rattle.records.specs.declared.payload.EditKind.TheVariants.{Jump, Fill}
-use Rattle.machine.specs.declared.fields.Checked.{Checked}
 use Rattle.machine.specs.declared.processor.RelocationType.{RelocationType}
 
 -- how a relocation that stores a field does so
@@ -15,7 +15,7 @@ pub record FieldRule : Type 0 where
   -- the value, of S, A and P
   pub value : ℕ → ℕ → ℕ → ℕ
   -- what is wrong with a value
-  pub fault : ℕ → Checked
+  pub fault : ℕ → Result (Unit {0}) Reason
   -- the field's new bytes, of its old ones and the value
   pub bytes : List ℕ → ℕ → List ℕ
 

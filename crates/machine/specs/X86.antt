@@ -1,10 +1,9 @@
 -- x86-64, as document 01 has it.
-use Rattle.std.specs.Prelude.{ℕ, Bool, true, cond, ◌&&◌, ◌||◌, ◌∷◌, leb, eqb, replicate}
+use Rattle.std.specs.Prelude.{ℕ, Bool, true, cond, ◌&&◌, ◌||◌, ◌∷◌, leb, eqb, replicate, Ok, Err}
 use Rattle.words.specs.Address.{wrapping_sum, wrapping_difference, signed, fits}
 use Rattle.words.specs.Number.{le_bytes}
 use Rattle.records.specs.Refusal.{reason_for}
 use Rattle.machine.specs.Machine.{FieldRule, Machine, edit_max}
-use Rattle.machine.specs.declared.fields.Checked.TheVariants.{Right, Wrong}
 use Rattle.machine.specs.declared.fields.FieldType.TheVariants.{Absolute, Relative}
 use Rattle.machine.specs.declared.processor.RelocationType.{RelocationType}
 use Rattle.machine.specs.declared.processor.RelocationType.TheVariants.{Nothing, Stores, Unknown}
@@ -15,7 +14,7 @@ absolute = record {
   width = 8;
   aligned = λ p. true;
   value = λ s a p. wrapping_sum s a;
-  fault = λ v. Right;
+  fault = λ v. (Ok tt);
   bytes = λ old v. le_bytes 8 v;
 }
 
@@ -29,7 +28,7 @@ relative = record {
   width = 4;
   aligned = λ p. true;
   value = λ s a p. wrapping_difference (wrapping_sum s a) p;
-  fault = λ v. cond (fits_four_bytes v) Right (Wrong (reason_for 34));
+  fault = λ v. cond (fits_four_bytes v) (Ok tt) (Err (reason_for 34));
   bytes = λ old v. le_bytes 4 v;
 }
 

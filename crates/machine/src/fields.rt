@@ -13,13 +13,6 @@ pub enum FieldType {
     Relative,
 }
 
-// A value that a field can take, or why it cannot.
-#[derive(Clone, Copy)]
-pub enum Checked {
-    Right,
-    Wrong(Reason),
-}
-
 impl FieldType {
     // How many bytes the field has.
     pub fn width(self) -> u64
@@ -52,17 +45,17 @@ impl FieldType {
         }
     }
 
-    // Whether the field can take the value.
-    pub fn check(self, v: u64) -> Checked
+    // Whether the field can take the value, or why it cannot.
+    pub fn check(self, v: u64) -> Result<(), Reason>
         ensures { result ≡ (rule_of self).fault v }
     {
         match self {
-            FieldType::Absolute => Checked::Right,
+            FieldType::Absolute => Ok(()),
             FieldType::Relative => {
                 if !words::address::fits_signed(v, 32) {
-                    return Checked::Wrong(Reason::OutOfRange);
+                    return Err(Reason::OutOfRange);
                 }
-                Checked::Right
+                Ok(())
             }
         }
     }

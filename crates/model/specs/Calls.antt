@@ -1,6 +1,6 @@
 -- The calls with their arguments, and what each gives back.
+use Rattle.records.specs.Refusal.{Verdict}
 use Rattle.std.specs.Prelude.{ℕ, List}
-use Rattle.records.specs.declared.refusal.Verdict.{Verdict}
 
 -- "in three lent buffers": statuses and results, names, lengths
 pub record Buffers : Type 0 where

@@ -1,6 +1,5 @@
 -- The reference model: document 01's ledger. "It is fed start-up's arguments and each call's names, bytes and numbers, nothing of the loader's."
-use Rattle.std.specs.Prelude.{ℕ, ◌+◌, Bool, List, [], length}
-use Rattle.std.proofs.Math.Option.{Option, none}
+use Rattle.std.specs.Prelude.{ℕ, ◌+◌, Bool, List, [], length, Option, None}
 use Rattle.records.specs.declared.payload.Edit.{Edit}
 use Rattle.machine.specs.Host.{machine_of}
 use Rattle.machine.specs.Machine.{Machine}
@@ -53,7 +52,7 @@ pub record Model : Type 0 where
 
 -- "At first nothing is loaded."
 abbrev pub opened : Start → Model
-opened a = record { start = a; version = 0; payloads = []; stack = []; laid = []; job = none }
+opened a = record { start = a; version = 0; payloads = []; stack = []; laid = []; job = None }
 
 -- no payload
 abbrev pub no_payload : Loaded

@@ -1,6 +1,5 @@
 -- What each call does to the model, and the reply that it gets: document 01's "Calls and holds", and the orders of "When the loader says no".
-use Rattle.std.specs.Prelude.{ℕ, suc, ◌+◌, ◌*◌, ◌-◌, ◌%◌, ◌^◌, min, Bool, true, false, cond, not, ◌&&◌, ◌||◌, List, [], ◌∷◌, ◌++◌, map, leb, ltb, eqb, pos, neg_ℤ, length, get_or, set, take, drop, replicate}
-use Rattle.std.proofs.Math.Option.{Option, none, some}
+use Rattle.std.specs.Prelude.{ℕ, suc, ◌+◌, ◌*◌, ◌-◌, ◌%◌, ◌^◌, min, Bool, true, false, cond, not, ◌&&◌, ◌||◌, List, [], ◌∷◌, ◌++◌, map, leb, ltb, eqb, pos, neg_ℤ, length, get_or, set, take, drop, replicate, Some, None, Option, Ok, Err}
 use Rattle.words.specs.Address.{stored}
 use Rattle.words.specs.Find.{first_where, every}
 use Rattle.words.specs.Name.{is_found}
@@ -8,17 +7,13 @@ use Rattle.words.specs.Number.{le_bytes}
 use Rattle.words.specs.Order.{equal}
 use Rattle.words.specs.Scan.{scan}
 use Rattle.words.specs.Splice.{part, splice}
-use Rattle.words.specs.declared.bytes.Found.{Found}
-use Rattle.words.specs.declared.bytes.Found.TheVariants.{At, Nothing}
 use Rattle.records.specs.Limits.{name_max}
 use Rattle.records.specs.Name.{is_name}
 use Rattle.records.specs.Payload.{no_edit, kept_name}
-use Rattle.records.specs.Refusal.{number_of}
+use Rattle.records.specs.Refusal.{number_of, Verdict}
 use Rattle.records.specs.Verdict.{must, ◌then◌, decide}
 use Rattle.records.specs.declared.payload.BuildId.{BuildId}
 use Rattle.records.specs.declared.refusal.Place.TheVariants.{Nowhere}
-use Rattle.records.specs.declared.refusal.Verdict.{Verdict}
-use Rattle.records.specs.declared.refusal.Verdict.TheVariants.{Pass, Refuse}
 use Rattle.symbols.specs.SymbolList.{valid}
 use Rattle.memory.specs.Memory.{slot_count}
 use Rattle.functions.specs.Functions.{edits_of}
@@ -85,16 +80,16 @@ with_result n p =
 
 -- ---- payloads by name and by slot
 
-unfoldable pub with_name : Model → List ℕ → Found
+unfoldable pub with_name : Model → List ℕ → Option ℕ
 with_name l name = first_where (λ p. equal p.name name) l.payloads
 
-unfoldable pub with_slot : Model → ℕ → Found
+unfoldable pub with_slot : Model → ℕ → Option ℕ
 with_slot l slot = first_where (λ p. eqb p.slot slot) l.payloads
 
 -- the payload at a place of the list
-abbrev pub payload_found : Model → Found → Loaded
-payload_found l (At i) = get_or l.payloads i no_payload
-payload_found l Nothing = no_payload
+abbrev pub payload_found : Model → Option ℕ → Loaded
+payload_found l (Some i) = get_or l.payloads i no_payload
+payload_found l None = no_payload
 
 abbrev pub named : Model → List ℕ → Loaded
 named l name = payload_found l (with_name l name)
@@ -103,9 +98,9 @@ abbrev pub payload_in : Model → ℕ → Loaded
 payload_in l slot = payload_found l (with_slot l slot)
 
 -- it, changed
-abbrev pub changed_found : (Loaded → Loaded) → Model → Found → Model
-changed_found f l (At i) = with_payloads (set l.payloads i (f (get_or l.payloads i no_payload))) l
-changed_found f l Nothing = l
+abbrev pub changed_found : (Loaded → Loaded) → Model → Option ℕ → Model
+changed_found f l (Some i) = with_payloads (set l.payloads i (f (get_or l.payloads i no_payload))) l
+changed_found f l None = l
 
 abbrev pub changed_in : (Loaded → Loaded) → Model → ℕ → Model
 changed_in f l slot = changed_found f l (with_slot l slot)
@@ -113,12 +108,12 @@ changed_in f l slot = changed_found f l (with_slot l slot)
 -- ---- upload
 
 -- "an upload takes the lowest free one"
-unfoldable pub free_slot : Model → Found
-free_slot l = scan (λ slot rest. cond (is_found (with_slot l slot)) rest (At slot)) Nothing 0 slot_count
+unfoldable pub free_slot : Model → Option ℕ
+free_slot l = scan (λ slot rest. cond (is_found (with_slot l slot)) rest (Some slot)) None 0 slot_count
 
-abbrev pub slot_in : Found → ℕ
-slot_in (At slot) = slot
-slot_in Nothing = 0
+abbrev pub slot_in : Option ℕ → ℕ
+slot_in (Some slot) = slot
+slot_in None = 0
 
 abbrev pub setting_for : Model → List ℕ → Setting
 setting_for l list = setting (host_for l.start (slot_in (free_slot l))) list
@@ -153,8 +148,8 @@ loaded_from l name list file =
 -- "The list is in upload order."
 unfoldable pub upload : Model → List ℕ → List ℕ → List ℕ → Told
 upload l name list file =
-    decide (λ r. told l (Says (Refuse r)))
-    (told (with_list (l.payloads ++ (loaded_from l name list file ∷ [])) l) (Says Pass))
+    decide (λ r. told l (Says (Err r)))
+    (told (with_list (l.payloads ++ (loaded_from l name list file ∷ [])) l) (Says (Ok tt)))
     (upload_rules l name list file)
 
 -- ---- get and list
@@ -166,7 +161,7 @@ result_word p = stored 32 (neg_ℤ (pos p.result))
 -- "Get order: lent sizes, name, 2."
 unfoldable pub get : Model → List ℕ → Reply
 get l name =
-    decide (λ r. Tells (Refuse r) 0 0) (Tells Pass (named l name).status (result_word (named l name)))
+    decide (λ r. Tells (Err r) 0 0) (Tells (Ok tt) (named l name).status (result_word (named l name)))
     (must (is_name name) 22 Nowhere then must (is_found (with_name l name)) 2 Nowhere)
 
 -- "status and result (4 + 4 bytes), name (128), length (4), little-endian"
@@ -202,8 +197,8 @@ unfoldable pub list_from : Model → ℕ → ℕ → Buffers → Reply
 list_from l idx nr b =
     let count : ℕ = length l.payloads in
     let written : ℕ = min nr (count - idx) in
-    decide (λ r. Lists (Refuse r) 0 0 0 b)
-    (Lists Pass written (count - idx - written) l.version (written_over (part l.payloads idx written) b))
+    decide (λ r. Lists (Err r) 0 0 0 b)
+    (Lists (Ok tt) written (count - idx - written) l.version (written_over (part l.payloads idx written) b))
     (must (leb nr slot_count) 7 Nowhere then must (leb idx count) 22 Nowhere then must (has_room nr b) 22 Nowhere)
 
 -- ---- the id the stack stands on: "the top payload's, or the hypervisor's when nothing is applied"
@@ -218,13 +213,13 @@ top_id l = top_id_over l l.stack
 -- ---- actions: "1 unload, 2 revert, 3 apply, 4 replace"
 
 abbrev pub is_standing : Option Job → Bool
-is_standing none = false
-is_standing (some j) = true
+is_standing None = false
+is_standing (Some j) = true
 
 -- "a job stands: actions 2 to 4, or unload of its payload"
 abbrev pub is_busy : Option Job → ℕ → Loaded → Bool
-is_busy none command p = false
-is_busy (some j) command p = not (eqb command 1) || eqb j.slot p.slot
+is_busy None command p = false
+is_busy (Some j) command p = not (eqb command 1) || eqb j.slot p.slot
 
 abbrev pub is_top : List ℕ → Loaded → Bool
 is_top [] p = false
@@ -253,9 +248,9 @@ condition_rules l command p =
     then must (base_ok l command p) 33 Nowhere
 
 -- the list without the payload at a place
-abbrev pub without : Found → List Loaded → List Loaded
-without (At i) ps = take i ps ++ drop (suc i) ps
-without Nothing ps = ps
+abbrev pub without : Option ℕ → List Loaded → List Loaded
+without (Some i) ps = take i ps ++ drop (suc i) ps
+without None ps = ps
 
 -- "that payload's result is -11"; "Each tick takes 1 from the time given (32 bits, 0 means 30)"
 abbrev pub job_for : Model → ℕ → Loaded → ℕ → Job
@@ -272,15 +267,15 @@ job_for l command p time =
 abbrev pub acted : Model → List ℕ → ℕ → ℕ → Model
 acted l name command time =
     cond (eqb command 1) (with_list (without (with_name l name) l.payloads) l)
-    (with_job (some (job_for l command (named l name) time)) (changed_found (with_result 11) l (with_name l name)))
+    (with_job (Some (job_for l command (named l name) time)) (changed_found (with_result 11) l (with_name l name)))
 
 -- "The last two set the result to the negated number."
 unfoldable pub act : Model → List ℕ → ℕ → ℕ → Told
 act l name command time =
-    decide (λ r. told l (Says (Refuse r)))
+    decide (λ r. told l (Says (Err r)))
     (decide
-    (λ r. told (changed_found (with_result (number_of r.reason)) l (with_name l name)) (Says (Refuse r)))
-    (told (acted l name command time) (Says Pass))
+    (λ r. told (changed_found (with_result (number_of r.reason)) l (with_name l name)) (Says (Err r)))
+    (told (acted l name command time) (Says (Ok tt)))
     (condition_rules l command (named l name)))
     (request_rules l name command)
 
@@ -304,24 +299,24 @@ with_steps n j = record { action = j.action; slot = j.slot; held = j.held; time 
 
 -- "A report marks one CPU (0 to count - 1) held (again: no change)."
 abbrev pub report_with : Model → Option Job → ℕ → Told
-report_with l none cpu = no_job l
-report_with l (some j) cpu =
-    decide (λ r. told l (Says (Refuse r))) (told (with_job (some (with_held cpu j)) l) (Says Pass))
+report_with l None cpu = no_job l
+report_with l (Some j) cpu =
+    decide (λ r. told l (Says (Err r))) (told (with_job (Some (with_held cpu j)) l) (Says (Ok tt)))
     (must (ltb cpu l.start.cpus) 22 Nowhere)
 
 -- "at 0 the job ends with result -16, status as before, all CPUs free"
 abbrev pub timed_out : Model → Job → Model
-timed_out l j = with_job none (changed_in (with_result 16) l j.slot)
+timed_out l j = with_job None (changed_in (with_result 16) l j.slot)
 
 -- "Each tick takes 1 from the time given"; once the hold is complete, "ticks do nothing"
 abbrev pub tick_with : Model → Option Job → Told
-tick_with l none = no_job l
-tick_with l (some j) =
+tick_with l None = no_job l
+tick_with l (Some j) =
     told
     (cond (is_complete j) l
     (cond (eqb j.time 1) (timed_out l j)
-    (with_job (some (with_time (j.time - 1) j)) l)))
-    (Says Pass)
+    (with_job (Some (with_time (j.time - 1) j)) l)))
+    (Says (Ok tt))
 
 -- how many edits the payloads in these slots have
 unfoldable pub edit_count : Model → List ℕ → ℕ
@@ -371,19 +366,19 @@ abbrev pub ended : Model → Job → Model
 ended l j =
     let stack : List ℕ = stack_after j.action j.slot l.stack in
     let settled : Model = changed_in (with_result 0) l j.slot in
-    with_job none (with_stack stack (with_payloads (with_statuses stack settled.payloads) settled))
+    with_job None (with_stack stack (with_payloads (with_statuses stack settled.payloads) settled))
 
 -- "each work step makes one edit"
 abbrev pub worked : Model → Job → Model
 worked l j =
     let after : Model = with_laid (laid_after l j) l in
-    cond (eqb (j.steps + 1) (step_count l j)) (ended after j) (with_job (some (with_steps (j.steps + 1) j)) after)
+    cond (eqb (j.steps + 1) (step_count l j)) (ended after j) (with_job (Some (with_steps (j.steps + 1) j)) after)
 
 -- "Work order: 22, then 16."
 abbrev pub work_with : Model → Option Job → Told
-work_with l none = no_job l
-work_with l (some j) =
-    decide (λ r. told l (Says (Refuse r))) (told (worked l j) (Says Pass)) (must (is_complete j) 16 Nowhere)
+work_with l None = no_job l
+work_with l (Some j) =
+    decide (λ r. told l (Says (Err r))) (told (worked l j) (Says (Ok tt))) (must (is_complete j) 16 Nowhere)
 
 -- ---- all calls
 

@@ -9,7 +9,6 @@ ghost use Rattle.ranges.specs.Ranges.{in_range};
 use records::payload::Payload;
 use state::state::State;
 use words::bytes;
-use words::bytes::Found;
 
 // Whether the payload has this name.
 pub fn is_named(payload: Payload, name: &[u8]) -> bool
@@ -22,16 +21,14 @@ pub fn is_named(payload: Payload, name: &[u8]) -> bool
 }
 
 // The place in the list of the payload of this name.
-pub fn with_name(state: State, name: &[u8]) -> Found
+pub fn with_name(state: State, name: &[u8]) -> Option<usize>
     requires { in_range state ≡ true }
     ensures { result ≡ with_name state name.now }
 {
-    let mut i = 0;
-    while i < state.count {
+    for i in 0..state.count {
         if is_named(state.payloads[i], name) {
-            return Found::At(i);
+            return Some(i);
         }
-        i += 1;
     }
-    Found::Nothing
+    None
 }

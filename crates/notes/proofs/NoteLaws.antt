@@ -1,4 +1,6 @@
 -- Notes: the test and the id by a head that was read, how long a note is, and which notes pass.
+use Rattle.records.specs.Refusal.{Verdict}
+use Rattle.std.proofs.Common.{Ok}
 use Prim.Native.Nat.{ℕ, ◌+◌, ◌-◌, ◌≤◌, ◌<◌}
 use mathlib.Core.Path.{◌≡◌, sym, ap}
 use mathlib.Core.Bool.{Bool, true, cond, ◌&&◌}
@@ -15,8 +17,6 @@ use Rattle.records.specs.Limits.{id_min, id_max}
 use Rattle.records.specs.Verdict.{must}
 use Rattle.records.specs.declared.payload.BuildId.{BuildId}
 use Rattle.records.specs.declared.refusal.Place.TheVariants.{Section}
-use Rattle.records.specs.declared.refusal.Verdict.{Verdict}
-use Rattle.records.specs.declared.refusal.Verdict.TheVariants.{Pass}
 use Rattle.records.proofs.Checks.{must-pass, scan-passes}
 use Rattle.elf.specs.Layout.{note_head_size, note_of}
 use Rattle.elf.specs.declared.Note.{Note}
@@ -83,9 +83,9 @@ module _ (file : List ℕ) (ss : List SectionEntry) (n : ℕ) where
   right-note i = note_ok (contents_of file (section_in ss i).header)
 
   abbrev one-verdict : ℕ → Verdict
-  one-verdict i = cond (is_note_kind (section_in ss i).kind) (must (right-note i) 22 (Section i)) Pass
+  one-verdict i = cond (is_note_kind (section_in ss i).kind) (must (right-note i) 22 (Section i)) (Ok tt)
 
-  pub note-passes : note_rules file ss n ≡ Pass → (i : ℕ) → i < n → is_note_kind (section_in ss i).kind ≡ true → right-note i ≡ true
+  pub note-passes : note_rules file ss n ≡ Ok tt → (i : ℕ) → i < n → is_note_kind (section_in ss i).kind ≡ true → right-note i ≡ true
   unfolding note_rules
   note-passes passes i below kind =
       let here = scan-passes one-verdict 0 n passes i (omega arith) (omega arith) in

@@ -1,5 +1,6 @@
 -- Document 01: "Each of the two note sections is one note: sizes 4 and d (1 to 64), type 3, GNU and a zero, d bytes, zeros to a multiple of 4, nothing more." (W1)
-use Rattle.std.specs.Prelude.{ℕ, ◌+◌, ◌*◌, ◌/◌, Bool, cond, ◌&&◌, List, leb, eqb, length, drop, replicate}
+use Rattle.records.specs.Refusal.{Verdict}
+use Rattle.std.specs.Prelude.{ℕ, ◌+◌, ◌*◌, ◌/◌, Bool, cond, ◌&&◌, List, leb, eqb, length, drop, replicate, Ok}
 use Rattle.words.specs.Order.{all_zero}
 use Rattle.words.specs.Scan.{scan}
 use Rattle.words.specs.Splice.{part, splice}
@@ -7,8 +8,6 @@ use Rattle.records.specs.Limits.{id_min, id_max}
 use Rattle.records.specs.Verdict.{must, ◌then◌}
 use Rattle.records.specs.declared.payload.BuildId.{BuildId}
 use Rattle.records.specs.declared.refusal.Place.TheVariants.{Section}
-use Rattle.records.specs.declared.refusal.Verdict.{Verdict}
-use Rattle.records.specs.declared.refusal.Verdict.TheVariants.{Pass}
 use Rattle.elf.specs.Layout.{note_head_size, note_of}
 use Rattle.elf.specs.declared.Note.{Note}
 use Rattle.kinds.specs.Kinds.{is_note_kind}
@@ -46,9 +45,9 @@ id_in note = record { bytes = splice (replicate id_max 0) 0 (part note note_head
 
 abbrev pub one_note : List ℕ → List SectionEntry → ℕ → Verdict → Verdict
 one_note file ss i rest =
-    cond (is_note_kind (section_in ss i).kind) (must (note_ok (contents_of file (section_in ss i).header)) 22 (Section i)) Pass
+    cond (is_note_kind (section_in ss i).kind) (must (note_ok (contents_of file (section_in ss i).header)) 22 (Section i)) (Ok tt)
     then rest
 
 -- "notes by index"
 unfoldable pub note_rules : List ℕ → List SectionEntry → ℕ → Verdict
-note_rules file ss n = scan (one_note file ss) Pass 0 n
+note_rules file ss n = scan (one_note file ss) (Ok tt) 0 n

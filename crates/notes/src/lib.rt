@@ -8,7 +8,7 @@ ghost use Rattle.notes.specs.Notes.{note_head_ok, note_ok, id_in, note_rules};
 use elf::Note;
 use object::sections::{self, SectionEntry};
 use records::payload::{BuildId, Payload};
-use records::refusal::{Place, Reason, Verdict};
+use records::refusal::{self, Place, Reason, Refusal};
 
 // The note's sizes, type and name.
 fn note_head_ok(head: Note) -> bool
@@ -70,22 +70,17 @@ pub fn check_notes(
     file: &[u8],
     table: [SectionEntry; Payload::SECTIONS_MAX],
     count: usize,
-) -> Verdict
+) -> Result<(), Refusal>
     requires { count ≤ sections_max }
     ensures { result ≡ note_rules file.now table count }
 {
-    let mut i = 0;
-    while i < count {
-        let one = table[i];
-        let kind = one.kind;
-        let h = one.header;
-        if kind.is_note() {
-            let note = sections::contents_of(file, h);
+    for (i, one) in table[..count].iter().enumerate() {
+        if one.kind.is_note() {
+            let note = sections::contents_of(file, one.header);
             if !note_ok(note) {
-                return Verdict::refused(Reason::Invalid, Place::Section(i as u16));
+                return refusal::refused(Reason::Invalid, Place::Section(i as u16));
             }
         }
-        i += 1;
     }
-    Verdict::Pass
+    Ok(())
 }

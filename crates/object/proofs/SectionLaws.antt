@@ -1,4 +1,5 @@
 -- A section as it is read, what a name table that passes tells, and the table of sections by its index.
+use Rattle.std.proofs.Common.{Ok}
 use Prim.Native.Nat.{ℕ, ◌+◌, ◌*◌, ◌≤◌, ◌<◌}
 use mathlib.Core.Path.{◌≡◌, refl, sym, ap}
 use mathlib.Core.Bool.{Bool, true, false, not, ◌&&◌}
@@ -11,7 +12,6 @@ use Rattle.words.proofs.Scan.{get_or-filled}
 use Rattle.words.proofs.Tests.{both}
 use Rattle.records.specs.Limits.{sections_max}
 use Rattle.records.specs.declared.refusal.Place.TheVariants.{Nowhere}
-use Rattle.records.specs.declared.refusal.Verdict.TheVariants.{Pass}
 use Rattle.records.proofs.Checks.{must-pass}
 use Rattle.elf.specs.Layout.{section_header_size, file_header_of}
 use Rattle.elf.specs.Name.{is_named}
@@ -99,7 +99,7 @@ consulted-contents file h full = rw full
 -- ---- the name table
 
 -- what one that passes tells
-module _ (file : List ℕ) (e : name_table_rules file ≡ Pass) where
+module _ (file : List ℕ) (e : name_table_rules file ≡ Ok tt) where
   in-table-typed : (ltb (name_section file) (section_count file) && has_type 3 (header_at file (name_section file))) ≡ true
   unfolding name_table_rules
   in-table-typed = (both _ _ (must-pass _ 22 Nowhere e)).0

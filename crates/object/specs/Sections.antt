@@ -1,13 +1,12 @@
 -- Document 01, "Reading a payload": e_shstrndx, and the sections by index.
-use Rattle.std.specs.Prelude.{ℕ, ◌+◌, ◌*◌, ◌%◌, Bool, cond, not, ◌&&◌, ◌||◌, List, leb, ltb, eqb, length, get_or}
+use Rattle.records.specs.Refusal.{Verdict}
+use Rattle.std.specs.Prelude.{ℕ, ◌+◌, ◌*◌, ◌%◌, Bool, cond, not, ◌&&◌, ◌||◌, List, leb, ltb, eqb, length, get_or, Ok}
 use Rattle.std.specs.Int.Bits.{bit_and}
 use Rattle.words.specs.Scan.{scan, filled}
 use Rattle.words.specs.Splice.{part}
 use Rattle.records.specs.Limits.{sections_max}
 use Rattle.records.specs.Verdict.{must, ◌then◌}
 use Rattle.records.specs.declared.refusal.Place.TheVariants.{Nowhere, Section}
-use Rattle.records.specs.declared.refusal.Verdict.{Verdict}
-use Rattle.records.specs.declared.refusal.Verdict.TheVariants.{Pass}
 use Rattle.elf.specs.Layout.{section_header_size, file_header_of, section_header_of}
 use Rattle.elf.specs.Name.{Name, name_in}
 use Rattle.elf.specs.declared.SectionHeader.{SectionHeader}
@@ -117,7 +116,7 @@ contents_ok h size = has_type 8 h || contents_inside h size
 -- "sections by index (name, type, flags, kind, alignment, contents)"; "of a type 0 section only the type is consulted"
 unfoldable pub section_rules : ℕ → ℕ → SectionEntry → Verdict
 section_rules size i s =
-    cond (has_type 0 s.header) Pass
+    cond (has_type 0 s.header) (Ok tt)
     (must (not (is_kind s.kind Unnamed)) 22 (Section i)
     then must (known_type s.header) 95 (Section i)
     then must (known_flags s.header) 95 (Section i)
@@ -132,4 +131,4 @@ one_section size ss i rest = section_rules size i (section_in ss i) then rest
 unfoldable pub sections_rules : ℕ → List SectionEntry → ℕ → Verdict
 sections_rules size ss n =
     must (has_type 0 (section_in ss 0).header) 22 (Section 0)
-    then scan (one_section size ss) Pass 0 n
+    then scan (one_section size ss) (Ok tt) 0 n

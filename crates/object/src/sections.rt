@@ -1,7 +1,6 @@
 // The section table, and the checks of each section.
-ghost use Rattle.std.specs.Prelude.{◌≡◌, ◌≤◌, ◌<◌};
+ghost use Rattle.std.specs.Prelude.{◌≡◌, ◌≤◌, ◌<◌, Ok};
 ghost use Rattle.records.specs.Limits.{sections_max};
-ghost use Rattle.records.specs.declared.refusal.Verdict.TheVariants.{Pass};
 ghost use Rattle.header.specs.Header.{Headed};
 ghost use Rattle.object.specs.Sections.{
   section_count,
@@ -24,7 +23,7 @@ ghost use Rattle.object.specs.Sections.{
 use elf::SectionHeader;
 use kinds::Kind;
 use records::payload::Payload;
-use records::refusal::{Place, Reason, Refusal, Verdict};
+use records::refusal::{self, Place, Reason, Refusal};
 
 // A section as it is read: its header, and what kind it is.
 #[derive(Clone, Copy)]
@@ -67,11 +66,11 @@ fn header_at(file: &[u8], i: u64) -> SectionHeader
 }
 
 // e_shstrndx names a type 3 section with contents inside the file.
-pub fn check_name_table(file: &[u8]) -> Verdict
+pub fn check_name_table(file: &[u8]) -> Result<(), Refusal>
     requires { Headed file.now }
     ensures { result ≡ name_table_rules file.now }
 {
-    let bad = Verdict::Refuse(Refusal {
+    let bad = Err(Refusal {
         reason: Reason::Invalid,
         place: Place::Nowhere,
     });
@@ -86,7 +85,7 @@ pub fn check_name_table(file: &[u8]) -> Verdict
     if !words::address::lies_within(names.sh_offset, names.sh_size, file.len() as u64) {
         return bad;
     }
-    Verdict::Pass
+    Ok(())
 }
 
 // The bytes of a section's contents that lie inside the file.
@@ -107,7 +106,7 @@ pub fn contents_of<'a>(file: &'a [u8], h: SectionHeader) -> &'a [u8]
 
 // The contents of the section that e_shstrndx names.
 fn name_table<'a>(file: &'a [u8]) -> &'a [u8]
-    requires { Headed file.now × (name_table_rules file.now ≡ Pass) }
+    requires { Headed file.now × (name_table_rules file.now ≡ Ok tt) }
     ensures { result.now ≡ name_table file.now }
 {
     let h = elf::read_file_header(file);
@@ -152,7 +151,7 @@ fn entry_at(file: &[u8], names: &[u8], i: u64) -> SectionEntry
 
 // All sections of the file, in a table of 64.
 pub fn read_sections(file: &[u8]) -> [SectionEntry; Payload::SECTIONS_MAX]
-    requires { Headed file.now × (name_table_rules file.now ≡ Pass) }
+    requires { Headed file.now × (name_table_rules file.now ≡ Ok tt) }
     ensures { result ≡ sections file.now }
 {
     let h = elf::read_file_header(file);
@@ -160,11 +159,8 @@ pub fn read_sections(file: &[u8]) -> [SectionEntry; Payload::SECTIONS_MAX]
     let names = name_table(file);
     let none = SectionEntry::none();
     let mut table = [none; Payload::SECTIONS_MAX];
-    let mut i = 0;
-    while i < count {
-        let one = entry_at(file, names, i as u64);
-        table[i] = one;
-        i += 1;
+    for i in 0..count {
+        table[i] = entry_at(file, names, i as u64);
     }
     table
 }
@@ -208,34 +204,34 @@ fn contents_ok(h: SectionHeader, size: u64) -> bool
 }
 
 // One section of a file of `size` bytes: name, type, flags, kind, alignment, contents.
-fn check_section(size: u64, i: u16, s: SectionEntry) -> Verdict
+#[tactic(auto, unfolding(crate::specs::Sections::section_rules))]
+fn check_section(size: u64, i: u16, s: SectionEntry) -> Result<(), Refusal>
     ensures { result ≡ section_rules size i s }
 {
     let h = s.header;
     let kind = s.kind;
-    let code = kind.code();
     if h.sh_type == 0 {
-        return Verdict::Pass;
+        return Ok(());
     }
-    if code == Kind::Unnamed.code() {
-        return Verdict::refused(Reason::Invalid, Place::Section(i));
+    if kind == Kind::Unnamed {
+        return refusal::refused(Reason::Invalid, Place::Section(i));
     }
     if !known_type(h) {
-        return Verdict::refused(Reason::Unsupported, Place::Section(i));
+        return refusal::refused(Reason::Unsupported, Place::Section(i));
     }
     if !known_flags(h) {
-        return Verdict::refused(Reason::Unsupported, Place::Section(i));
+        return refusal::refused(Reason::Unsupported, Place::Section(i));
     }
-    if code == Kind::Unknown.code() {
-        return Verdict::refused(Reason::Unsupported, Place::Section(i));
+    if kind == Kind::Unknown {
+        return refusal::refused(Reason::Unsupported, Place::Section(i));
     }
     if !alignment_ok(h) {
-        return Verdict::refused(Reason::Invalid, Place::Section(i));
+        return refusal::refused(Reason::Invalid, Place::Section(i));
     }
     if !contents_ok(h, size) {
-        return Verdict::refused(Reason::Invalid, Place::Section(i));
+        return refusal::refused(Reason::Invalid, Place::Section(i));
     }
-    Verdict::Pass
+    Ok(())
 }
 
 // All sections in order, up to the first that breaks a rule.
@@ -243,23 +239,20 @@ pub fn check_sections(
     size: u64,
     table: [SectionEntry; Payload::SECTIONS_MAX],
     count: usize,
-) -> Verdict
+) -> Result<(), Refusal>
     requires { count ≤ sections_max }
     ensures { result ≡ sections_rules size table count }
 {
     let first = table[0];
     let h = first.header;
     if h.sh_type != 0 {
-        return Verdict::refused(Reason::Invalid, Place::Section(0));
+        return refusal::refused(Reason::Invalid, Place::Section(0));
     }
-    let mut i = 0;
-    while i < count {
-        let one = table[i];
-        let v = check_section(size, i as u16, one);
-        if let Verdict::Refuse(_) = v {
+    for (i, one) in table[..count].iter().enumerate() {
+        let v = check_section(size, i as u16, *one);
+        if let Err(_) = v {
             return v;
         }
-        i += 1;
     }
-    Verdict::Pass
+    Ok(())
 }

@@ -15,10 +15,8 @@ fn applied_edits(outline: Outline) -> u64
     ensures { ((s : State) → Outlines outline s → result ≡ length (removals_in s (reverse (stack_of s)))) × (result < 2 ^ 36) }
 {
     let mut total = 0;
-    let mut i = outline.depth;
-    while 0 < i {
-        i -= 1;
-        total += outline::edits_in(outline, outline.stack[i]) as u64;
+    for slot in &outline.stack[..outline.depth] {
+        total += outline::edits_in(outline, *slot) as u64;
     }
     total
 }

@@ -1,12 +1,11 @@
 // The outline of a state: all that its stack and its job are checked by. A state goes by value and has some 8 KiB; its outline has 128 bytes.
-ghost use Rattle.std.specs.Prelude.{◌≡◌, ℕ, ◌≤◌, ◌<◌};
+ghost use Rattle.std.specs.Prelude.{◌≡◌, ℕ, ◌≤◌, ◌<◌, Some};
 ghost use Rattle.memory.specs.Memory.{slot_count};
 ghost use Rattle.state.specs.Find.{with_slot, lowest_free, free_slot, payload_in};
 ghost use Rattle.outlines.specs.Outline.{Outlines};
 
 use memory::config::Config;
 use state::state::State;
-use words::bytes::Found;
 
 // `slots` and `edits` are of the loaded payloads: where each is, and how many edits it has. From `action` on it is the job.
 #[derive(Clone, Copy)]
@@ -28,11 +27,9 @@ pub fn outline_of(state: State) -> Outline
 {
     let mut slots = [0u32; Config::SLOTS];
     let mut edits = [0u32; Config::SLOTS];
-    let mut i = 0;
-    while i < state.count {
-        slots[i] = state.payloads[i].slot;
-        edits[i] = state.payloads[i].edit_count;
-        i += 1;
+    for (i, payload) in state.payloads[..state.count].iter().enumerate() {
+        slots[i] = payload.slot;
+        edits[i] = payload.edit_count;
     }
     let job = state.job;
     Outline {
@@ -49,18 +46,16 @@ pub fn outline_of(state: State) -> Outline
 }
 
 // The place in the list of the payload in this slot.
-pub fn with_slot(outline: Outline, slot: u32) -> Found
+pub fn with_slot(outline: Outline, slot: u32) -> Option<usize>
     requires { outline.count ≤ slot_count }
-    ensures { ((s : State) → Outlines outline s → result ≡ with_slot s slot) × ((i : ℕ) → result ≡ Found.At i → i < outline.count) }
+    ensures { ((s : State) → Outlines outline s → result ≡ with_slot s slot) × ((i : ℕ) → result ≡ Some i → i < outline.count) }
 {
-    let mut i = 0;
-    while i < outline.count {
-        if outline.slots[i] == slot {
-            return Found::At(i);
+    for (i, used) in outline.slots[..outline.count].iter().enumerate() {
+        if *used == slot {
+            return Some(i);
         }
-        i += 1;
     }
-    Found::Nothing
+    None
 }
 
 // How many edits the payload in this slot has; none where there is no payload.
@@ -68,33 +63,31 @@ pub fn edits_in(outline: Outline, slot: u32) -> u32
     requires { outline.count ≤ slot_count }
     ensures { (s : State) → Outlines outline s → result ≡ (payload_in s slot).edit_count }
 {
-    let Found::At(i) = with_slot(outline, slot) else {
+    let Some(i) = with_slot(outline, slot) else {
         return 0;
     };
     outline.edits[i]
 }
 
 // The lowest slot that no payload is in.
-fn lowest_free(outline: Outline) -> Found
+fn lowest_free(outline: Outline) -> Option<usize>
     requires { outline.count ≤ slot_count }
     ensures { (s : State) → Outlines outline s → result ≡ lowest_free s }
 {
-    let mut slot = 0;
-    while slot < Config::SLOTS {
-        let Found::At(_) = with_slot(outline, slot as u32) else {
-            return Found::At(slot);
+    for slot in 0..Config::SLOTS {
+        let Some(_) = with_slot(outline, slot as u32) else {
+            return Some(slot);
         };
-        slot += 1;
     }
-    Found::Nothing
+    None
 }
 
 // The slot that an upload takes.
-pub fn free_slot(outline: Outline) -> Found
+pub fn free_slot(outline: Outline) -> Option<usize>
     ensures { (s : State) → Outlines outline s → result ≡ free_slot s }
 {
     if Config::SLOTS <= outline.count {
-        return Found::Nothing;
+        return None;
     }
     lowest_free(outline)
 }

@@ -1,58 +1,76 @@
--- Sections counted and found by their kind's number, and what the counts say where they pass.
-use Prim.Native.Nat.{ℕ, zero, suc, ◌+◌, ◌-◌, ◌*◌, ◌%◌, ◌≤◌, ◌<◌}
-use mathlib.Core.Path.{◌≡◌, refl, ap, ◌∙◌}
-use mathlib.Core.Bool.{Bool, true, cond, ◌&&◌}
+-- Sections counted and found by their kind, and what the counts say where they pass.
+use Prim.Native.Nat.{ℕ, zero, suc, ◌+◌, ◌*◌, ◌%◌, ◌≤◌, ◌<◌}
+use mathlib.Core.Path.{◌≡◌, refl}
+use mathlib.Core.Bool.{Bool, true, false, cond, ◌&&◌}
 use mathlib.Core.List.{List}
 use mathlib.Core.Logic.{⊎_elim}
+use native.Mathlib.Numerals.{add-one}
 use native.Mathlib.Omega.{arith}
-use borrow.Author.Tests.{eq-eqb, ne_eqb, eqb-true, ltb-true, leb-true}
+use borrow.Author.Tests.{eqb-true, ltb-true, leb-true}
+use denote.Enum.Bare.{sameb}
 use lib.Dec.{eqb}
+use lib.ListN.{length, take, drop}
+use lib.Seq.{drop-cons}
+use Rattle.std.specs.List.{count_by, position, position_from}
+use Rattle.std.specs.Option.{unwrap_or}
+use Rattle.std.proofs.Common.{Option, Some, Ok}
+use Rattle.std.proofs.lemmas.Iterator.Adapters.{position_from-zero}
+use Rattle.std.proofs.lemmas.List.Sums.{sum_by-cons}
 use Rattle.words.specs.Scan.{scan}
-use Rattle.words.proofs.Scan.{turn, Miss, searched}
+use Rattle.words.proofs.Scan.{Miss, searched}
 use Rattle.words.proofs.Tests.{both}
-use Rattle.records.specs.Limits.{records_max, record_size}
-use Rattle.records.specs.declared.refusal.Verdict.TheVariants.{Pass}
+use Rattle.records.specs.Limits.{sections_max, records_max, record_size}
 use Rattle.records.proofs.Checks.{must-pass, then-pass}
 use Rattle.elf.specs.Layout.{symbol_size}
 use Rattle.elf.specs.declared.SectionHeader.{SectionHeader}
-use Rattle.kinds.specs.Kinds.{has_type, kind_code, is_kind}
+use Rattle.kinds.specs.Kinds.{has_type, is_kind}
+use Rattle.kinds.specs.contracts.Kind.{the_type}
 use Rattle.kinds.specs.declared.Kind.{Kind}
 use Rattle.kinds.specs.declared.Kind.TheVariants.{Records, Depends, BuildId, Symbols}
-use Rattle.object.specs.Sections.{section_in}
+use Rattle.kinds.proofs.Same.{same-kind}
+use Rattle.object.specs.Sections.{section_in, no_entry}
 use Rattle.object.specs.declared.sections.SectionEntry.{SectionEntry}
-use Rattle.payload.specs.Counts.{one_counted, count_of, index_of, symbol_table_ok, records_size_ok, count_rules}
+use Rattle.payload.specs.Counts.{one_counted, one_index, count_of, index_of, symbol_table_ok, records_size_ok, count_rules}
 
--- ---- the loops, which know a kind by its number
+-- ---- the sections counted and sought in a list, by the derived `==` of their kind
 
--- through the sections from i on: `hit` takes one whose kind has this number, and what comes of those after it
-module _ (hit : ℕ → ℕ → ℕ) (ss : List SectionEntry) (number : ℕ) where
-  abbrev pub hits-from : ℕ → ℕ → ℕ
-  hits-from i k = scan (λ j rest. cond (eqb (kind_code (section_in ss j).kind) number) (hit j rest) rest) 0 i k
+abbrev pub of_kind : Kind → SectionEntry → Bool
+of_kind kind s = sameb the_type s.kind kind
 
-  -- a turn at a section of that kind, and at another
-  module _ (i n : ℕ) (more : i < n) where
-    pub turn-hits : kind_code (section_in ss i).kind ≡ number → hits-from i (n - i) ≡ hit i (hits-from (i + 1) (n - (i + 1)))
-    turn-hits e = turn _ _ i n more ∙ rw (eq-eqb _ number e)
+module _ (ss : List SectionEntry) (kind : Kind) where
+  -- through the k sections from i on: how many there are, and the first of them
+  count-from : (i k : ℕ) → i + k ≤ length ss → count_by (of_kind kind) (take k (drop i ss)) ≡ scan (one_counted ss kind) 0 i k
+  unfolding scan
+  count-from i zero h = refl
+  count-from i (suc k) h =
+      let more : i < length ss = omega arith in
+      rw (drop-cons ss i no_entry more, sum_by-cons (λ s. cond (of_kind kind s) 1 0), same-kind (section_in ss i).kind kind, count-from (suc i) k (omega arith))
+      (by_test (is_kind (section_in ss i).kind kind) _)
+    where
+      by_test : (b : Bool) (n : ℕ) → cond b 1 0 + n ≡ cond b (suc n) n
+      by_test true n = omega arith
+      by_test false n = omega arith
 
-    pub turn-misses : (kind_code (section_in ss i).kind ≡ number → ⊥) → hits-from i (n - i) ≡ hits-from (i + 1) (n - (i + 1))
-    turn-misses e = turn _ _ i n more ∙ rw (ne_eqb _ number e)
+  index-from :
+      (i k : ℕ) → i + k ≤ length ss → unwrap_or (position_from (of_kind kind) i (take k (drop i ss))) 0 ≡ scan (one_index ss kind) 0 i k
+  unfolding scan
+  index-from i zero h = refl
+  index-from i (suc k) h =
+      let more : i < length ss = omega arith in
+      rw (drop-cons ss i no_entry more, add-one i, same-kind (section_in ss i).kind kind)
+      (by_test (is_kind (section_in ss i).kind kind) _ _ (index-from (suc i) k (omega arith)))
+    where
+      by_test : (b : Bool) (later : Option ℕ) (n : ℕ) → unwrap_or later 0 ≡ n → unwrap_or (cond b (Some i) later) 0 ≡ cond b i n
+      by_test true later n e = refl
+      by_test false later n e = e
 
--- what a count and a search make of a hit
-abbrev pub one_more : ℕ → ℕ → ℕ
-one_more j rest = suc rest
-
-abbrev pub found_here : ℕ → ℕ → ℕ
-found_here j rest = j
-
--- the number is a kind's
-module _ (ss : List SectionEntry) (n : ℕ) (kind : Kind) {number : ℕ} (known : number ≡ kind_code kind) where
-  pub counted : hits-from one_more ss number 0 n ≡ count_of ss n kind
+  pub counted : (n : ℕ) → n ≤ length ss → count_by (of_kind kind) (take n ss) ≡ count_of ss n kind
   unfolding count_of
-  counted = ap (λ (x : ℕ). hits-from one_more ss x 0 n) known
+  counted n inside = count-from 0 n (omega arith)
 
-  pub indexed : hits-from found_here ss number 0 n ≡ index_of ss n kind
+  pub indexed : (n : ℕ) → n ≤ length ss → unwrap_or (position (of_kind kind) (take n ss)) 0 ≡ index_of ss n kind
   unfolding index_of
-  indexed = ap (λ (x : ℕ). hits-from found_here ss x 0 n) known
+  indexed n inside = rw (position_from-zero (of_kind kind)) (index-from 0 n (omega arith))
 
 -- ---- where a kind is counted, it is found
 
@@ -75,6 +93,11 @@ module _ (ss : List SectionEntry) (n : ℕ) (kind : Kind) where
       (λ w. absurd (omega (arith, none-counted 0 n w.0)))
       (searched has_kind (λ j. j) 0 0 n)
 
+  -- it is a section's, or 0
+  pub index-below : n ≤ sections_max → index_of ss n kind < sections_max
+  unfolding index_of
+  index-below few = ⊎_elim (λ w. rw w.2 (omega arith)) (λ w. rw w.1 (omega arith)) (searched has_kind (λ j. j) 0 0 n)
+
 -- ---- counts that pass
 
 pub record CountsPass (ss : List SectionEntry) (n : ℕ) : Type 0 where
@@ -85,7 +108,7 @@ pub record CountsPass (ss : List SectionEntry) (n : ℕ) : Type 0 where
   pub build_id : count_of ss n BuildId ≡ 1
   pub records_size : records_size_ok (section_in ss (index_of ss n Records)).header ≡ true
 
-pub counts-pass : (ss : List SectionEntry) (n : ℕ) → count_rules ss n ≡ Pass → CountsPass ss n
+pub counts-pass : (ss : List SectionEntry) (n : ℕ) → count_rules ss n ≡ Ok tt → CountsPass ss n
 unfolding count_rules
 counts-pass ss n h =
     let symbols = then-pass _ _ h in

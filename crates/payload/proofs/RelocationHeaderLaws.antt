@@ -1,4 +1,6 @@
 -- The headers of relocation sections that pass: what each of them has as its target.
+use Rattle.records.specs.Refusal.{Verdict}
+use Rattle.std.proofs.Common.{Ok}
 use Prim.Native.Nat.{ℕ, ◌%◌, ◌<◌}
 use mathlib.Core.Path.{◌≡◌}
 use mathlib.Core.Bool.{true, cond, ◌&&◌}
@@ -9,8 +11,6 @@ use lib.Dec.{ltb, eqb}
 use Rattle.words.proofs.Tests.{both}
 use Rattle.records.specs.Verdict.{must}
 use Rattle.records.specs.declared.refusal.Place.TheVariants.{Section}
-use Rattle.records.specs.declared.refusal.Verdict.{Verdict}
-use Rattle.records.specs.declared.refusal.Verdict.TheVariants.{Pass}
 use Rattle.records.proofs.Checks.{must-pass, scan-passes}
 use Rattle.elf.specs.Layout.{relocation_size}
 use Rattle.kinds.specs.Kinds.{is_kind}
@@ -32,10 +32,10 @@ target_right ss n table s ok =
 
 module _ (ss : List SectionEntry) (n table : ℕ) where
   abbrev one-header : ℕ → Verdict
-  one-header i = cond (is_kind (section_in ss i).kind Relocations) (must (relocation_header_ok ss n table (section_in ss i)) 22 (Section i)) Pass
+  one-header i = cond (is_kind (section_in ss i).kind Relocations) (must (relocation_header_ok ss n table (section_in ss i)) 22 (Section i)) (Ok tt)
 
   pub target-passes :
-      relocation_header_rules ss n table ≡ Pass → (i : ℕ) → i < n → is_kind (section_in ss i).kind Relocations ≡ true →
+      relocation_header_rules ss n table ≡ Ok tt → (i : ℕ) → i < n → is_kind (section_in ss i).kind Relocations ≡ true →
       ((section_in ss i).header.sh_info < n) × (is_target (section_in ss (section_in ss i).header.sh_info) ≡ true)
   unfolding relocation_header_rules
   target-passes passes i below kind =

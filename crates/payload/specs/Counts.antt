@@ -1,10 +1,10 @@
 -- Document 01: "There is exactly one type 2 section .. and exactly one of each named .livepatch.funcs, depends and build-id."
+use Rattle.records.specs.Refusal.{Verdict}
 use Rattle.std.specs.Prelude.{ℕ, suc, ◌*◌, ◌%◌, Bool, cond, ◌&&◌, List, leb, ltb, eqb}
 use Rattle.words.specs.Scan.{scan}
 use Rattle.records.specs.Limits.{records_max, record_size}
 use Rattle.records.specs.Verdict.{must, ◌then◌}
 use Rattle.records.specs.declared.refusal.Place.TheVariants.{Nowhere, Section}
-use Rattle.records.specs.declared.refusal.Verdict.{Verdict}
 use Rattle.elf.specs.Layout.{symbol_size}
 use Rattle.elf.specs.declared.SectionHeader.{SectionHeader}
 use Rattle.kinds.specs.Kinds.{has_type, is_kind}

@@ -1,17 +1,14 @@
 -- What the file alone decides, in document 01's order, and what the later stages need of it.
-use Rattle.std.specs.Prelude.{ℕ, List, length, replicate}
-use Rattle.records.specs.Limits.{sections_max}
-use Rattle.records.specs.Payload.{no_id}
+use Rattle.records.specs.Refusal.{Verdict}
+use Rattle.std.specs.Prelude.{ℕ, List, length, Result, Ok, Err}
 use Rattle.records.specs.Verdict.{◌then◌, decide}
 use Rattle.records.specs.declared.payload.BuildId.{BuildId}
 use Rattle.records.specs.declared.refusal.Refusal.{Refusal}
-use Rattle.records.specs.declared.refusal.Verdict.{Verdict}
-use Rattle.records.specs.declared.refusal.Verdict.TheVariants.{Pass, Refuse}
 use Rattle.machine.specs.Machine.{Machine}
 use Rattle.header.specs.Header.{header_rules}
 use Rattle.kinds.specs.declared.Kind.{Kind}
 use Rattle.kinds.specs.declared.Kind.TheVariants.{Records, Depends, Symbols}
-use Rattle.object.specs.Sections.{section_count, sections, section_in, no_entry, contents_of, name_table_rules, sections_rules}
+use Rattle.object.specs.Sections.{section_count, sections, section_in, contents_of, name_table_rules, sections_rules}
 use Rattle.object.specs.declared.sections.SectionEntry.{SectionEntry}
 use Rattle.notes.specs.Notes.{id_in, note_rules}
 use Rattle.payload.specs.Counts.{index_of, count_rules}
@@ -34,24 +31,10 @@ read_rules m file = header_rules m file then name_table_rules file then table_ru
 abbrev pub id_of : List ℕ → List SectionEntry → ℕ → Kind → BuildId
 id_of file ss n kind = id_in (contents_of file (section_in ss (index_of ss n kind)).header)
 
-abbrev pub refused_reading : Refusal → Reading
-refused_reading r =
-    record {
-      verdict = Refuse r;
-      count = 0;
-      sections = replicate sections_max no_entry;
-      symbols = 0;
-      records = 0;
-      id_section = 0;
-      depends_section = 0;
-      id = no_id;
-      dependency = no_id;
-    }
-
+-- what is read of a file of n sections ss that keeps the rules
 abbrev pub accepted_reading : List ℕ → List SectionEntry → ℕ → Reading
 accepted_reading file ss n =
     record {
-      verdict = Pass;
       count = n;
       sections = ss;
       symbols = index_of ss n Symbols;
@@ -63,5 +46,5 @@ accepted_reading file ss n =
     }
 
 -- the answer for a file
-unfoldable pub reading_of : Machine → List ℕ → Reading
-reading_of m file = decide refused_reading (accepted_reading file (sections file) (section_count file)) (read_rules m file)
+unfoldable pub reading_of : Machine → List ℕ → Result Reading Refusal
+reading_of m file = decide Err (Ok (accepted_reading file (sections file) (section_count file))) (read_rules m file)

@@ -1,10 +1,9 @@
 -- Document 01: "Type 4 sections: link to the symbol table, entry size 24, size a multiple of it. The target (sh_info) is .."
-use Rattle.std.specs.Prelude.{ℕ, ◌%◌, Bool, cond, not, ◌&&◌, ◌||◌, List, ltb, eqb}
+use Rattle.records.specs.Refusal.{Verdict}
+use Rattle.std.specs.Prelude.{ℕ, ◌%◌, Bool, cond, not, ◌&&◌, ◌||◌, List, ltb, eqb, Ok}
 use Rattle.words.specs.Scan.{scan}
 use Rattle.records.specs.Verdict.{must, ◌then◌}
 use Rattle.records.specs.declared.refusal.Place.TheVariants.{Section}
-use Rattle.records.specs.declared.refusal.Verdict.{Verdict}
-use Rattle.records.specs.declared.refusal.Verdict.TheVariants.{Pass}
 use Rattle.elf.specs.Layout.{relocation_size}
 use Rattle.kinds.specs.Kinds.{has_type, is_kind}
 use Rattle.kinds.specs.declared.Kind.TheVariants.{Placed, Records, Relocations, Ignored}
@@ -28,9 +27,9 @@ relocation_header_ok ss n table s =
 
 abbrev pub one_relocation_header : List SectionEntry → ℕ → ℕ → ℕ → Verdict → Verdict
 one_relocation_header ss n table i rest =
-    cond (is_kind (section_in ss i).kind Relocations) (must (relocation_header_ok ss n table (section_in ss i)) 22 (Section i)) Pass
+    cond (is_kind (section_in ss i).kind Relocations) (must (relocation_header_ok ss n table (section_in ss i)) 22 (Section i)) (Ok tt)
     then rest
 
 -- by index; table is the symbol table's
 unfoldable pub relocation_header_rules : List SectionEntry → ℕ → ℕ → Verdict
-relocation_header_rules ss n table = scan (one_relocation_header ss n table) Pass 0 n
+relocation_header_rules ss n table = scan (one_relocation_header ss n table) (Ok tt) 0 n

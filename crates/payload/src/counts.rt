@@ -7,24 +7,13 @@ use elf::SectionHeader;
 use kinds::Kind;
 use object::sections::SectionEntry;
 use records::payload::Payload;
-use records::refusal::{Place, Reason, Refusal, Verdict};
+use records::refusal::{self, Place, Reason, Refusal};
 
 fn count_of(table: [SectionEntry; Payload::SECTIONS_MAX], count: usize, kind: Kind) -> usize
     requires { count ≤ sections_max }
     ensures { result ≡ count_of table count kind }
 {
-    let wanted = kind.code();
-    let mut seen = 0;
-    let mut i = 0;
-    while i < count {
-        let one = table[i];
-        let k = one.kind;
-        if k.code() == wanted {
-            seen += 1;
-        }
-        i += 1;
-    }
-    seen
+    table[..count].iter().filter(|s| s.kind == kind).count()
 }
 
 // The first section of a kind, or 0 where there is none.
@@ -36,17 +25,10 @@ pub(crate) fn index_of(
     requires { count ≤ sections_max }
     ensures { (result ≡ index_of table count kind) × (result < sections_max) }
 {
-    let wanted = kind.code();
-    let mut i = 0;
-    while i < count {
-        let one = table[i];
-        let k = one.kind;
-        if k.code() == wanted {
-            return i;
-        }
-        i += 1;
-    }
-    0
+    table[..count]
+        .iter()
+        .position(|s| s.kind == kind)
+        .unwrap_or(0)
 }
 
 fn symbol_table_ok(
@@ -88,11 +70,14 @@ fn records_size_ok(h: SectionHeader) -> bool
 
 // One type 2 section with a right header, one of each of the three names, and a right number of records.
 #[tactic(auto, unfolding(crate::specs::Counts::count_rules))]
-pub(crate) fn check_counts(table: [SectionEntry; Payload::SECTIONS_MAX], count: usize) -> Verdict
+pub(crate) fn check_counts(
+    table: [SectionEntry; Payload::SECTIONS_MAX],
+    count: usize,
+) -> Result<(), Refusal>
     requires { count ≤ sections_max }
     ensures { result ≡ count_rules table count }
 {
-    let bad = Verdict::Refuse(Refusal {
+    let bad = Err(Refusal {
         reason: Reason::Invalid,
         place: Place::Nowhere,
     });
@@ -102,7 +87,7 @@ pub(crate) fn check_counts(table: [SectionEntry; Payload::SECTIONS_MAX], count: 
     let symbols = index_of(table, count, Kind::Symbols);
     let entry = table[symbols];
     if !symbol_table_ok(table, count, entry.header) {
-        return Verdict::refused(Reason::Invalid, Place::Section(symbols as u16));
+        return refusal::refused(Reason::Invalid, Place::Section(symbols as u16));
     }
     if count_of(table, count, Kind::Records) != 1 {
         return bad;
@@ -116,7 +101,7 @@ pub(crate) fn check_counts(table: [SectionEntry; Payload::SECTIONS_MAX], count: 
     let records = index_of(table, count, Kind::Records);
     let listed = table[records];
     if !records_size_ok(listed.header) {
-        return Verdict::refused(Reason::Invalid, Place::Section(records as u16));
+        return refusal::refused(Reason::Invalid, Place::Section(records as u16));
     }
-    Verdict::Pass
+    Ok(())
 }

@@ -6,27 +6,17 @@ ghost use Rattle.payload.specs.RelocationHeaders.{is_target, relocation_header_o
 use kinds::Kind;
 use object::sections::SectionEntry;
 use records::payload::Payload;
-use records::refusal::{Place, Reason, Verdict};
+use records::refusal::{self, Place, Reason, Refusal};
 
 // Whether relocations may be made in this section, or it is ignored with them.
 #[tactic(auto, unfolding(crate::specs::RelocationHeaders::is_target))]
 fn is_target(s: SectionEntry) -> bool
     ensures { result ≡ is_target s }
 {
-    let h = s.header;
-    let kind = s.kind;
-    match kind {
-        Kind::Placed => h.sh_type != 8,
-        Kind::Records => true,
-        Kind::Ignored => true,
-        Kind::Null
-        | Kind::Unnamed
-        | Kind::Depends
-        | Kind::BuildId
-        | Kind::Symbols
-        | Kind::Strings
-        | Kind::Relocations
-        | Kind::Unknown => false,
+    match s.kind {
+        Kind::Placed => s.header.sh_type != 8,
+        Kind::Records | Kind::Ignored => true,
+        _ => false,
     }
 }
 
@@ -62,20 +52,15 @@ pub(crate) fn check_relocation_headers(
     table: [SectionEntry; Payload::SECTIONS_MAX],
     count: usize,
     symbols: usize,
-) -> Verdict
+) -> Result<(), Refusal>
     requires { count ≤ sections_max }
     ensures { result ≡ relocation_header_rules table count symbols }
 {
-    let mut i = 0;
-    while i < count {
+    for i in 0..count {
         let one = table[i];
-        let kind = one.kind;
-        if let Kind::Relocations = kind {
-            if !relocation_header_ok(table, count, symbols, one) {
-                return Verdict::refused(Reason::Invalid, Place::Section(i as u16));
-            }
+        if one.kind == Kind::Relocations && !relocation_header_ok(table, count, symbols, one) {
+            return refusal::refused(Reason::Invalid, Place::Section(i as u16));
         }
-        i += 1;
     }
-    Verdict::Pass
+    Ok(())
 }

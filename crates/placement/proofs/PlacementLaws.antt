@@ -1,4 +1,5 @@
 -- Placement: the next multiple, where the placed sections end, how long the slot's bytes are, and what is kept for the symbols.
+use Rattle.std.proofs.Common.{Ok}
 use Prim.Native.Nat.{ℕ, zero, suc, ◌+◌, ◌-◌, ◌*◌, ◌/◌, ◌%◌, ◌≤◌, ◌<◌}
 use mathlib.Core.Path.{◌≡◌, refl, sym, ◌∙◌}
 use mathlib.Core.Bool.{Bool, true, false, cond, not}
@@ -16,9 +17,8 @@ use Rattle.words.proofs.Scan.{length-each, length-filled, get_or-filled}
 use Rattle.words.proofs.Splice.{length-splice, splice-whole}
 use Rattle.words.proofs.Tests.{both}
 use Rattle.records.specs.Limits.{sections_max, placed_max}
-use Rattle.records.specs.Verdict.{must}
+use Rattle.records.specs.Verdict.{must, verdict_of}
 use Rattle.records.specs.declared.refusal.Place.TheVariants.{Section}
-use Rattle.records.specs.declared.refusal.Verdict.TheVariants.{Pass}
 use Rattle.records.proofs.Checks.{must-pass, scan-passes, Told}
 use Rattle.kinds.specs.Kinds.{has_type}
 use Rattle.object.specs.Sections.{section_in, contents_of}
@@ -141,7 +141,7 @@ module _ (ss : List SectionEntry) where
       omega (arith, end-rises (suc i) n h)
 
   -- the placed bytes of sections that pass fit the slot
-  pub end-inside : (n : ℕ) → placement_rules ss n ≡ Pass → end_before ss n ≤ placed_max
+  pub end-inside : (n : ℕ) → placement_rules ss n ≡ Ok tt → end_before ss n ≤ placed_max
   unfolding placement_rules end_before
   end-inside zero e = omega arith
   end-inside (suc n) e =
@@ -150,7 +150,7 @@ module _ (ss : List SectionEntry) where
 
   -- and so each placed section lies inside the slot
   pub section-inside :
-      (n i : ℕ) → placement_rules ss n ≡ Pass → i < n → is_placed (section_in ss i) ≡ true →
+      (n i : ℕ) → placement_rules ss n ≡ Ok tt → i < n → is_placed (section_in ss i) ≡ true →
       offset_of ss i + (section_in ss i).header.sh_size ≤ placed_max
   section-inside n i e h placed = omega (arith, placed-inside n i h placed, end-inside n e)
 
@@ -204,7 +204,7 @@ module _ (file : List ℕ) where
         let so_far = length_before n (omega (arith, end_low (end_before ss n) (section_in ss n))) in
         rw image-next (length-laid _ (end_before ss n) (section_in ss n) (omega arith) ∙ so_far)
 
-    pub length-image : (n : ℕ) → placement_rules ss n ≡ Pass → length (image_before file ss n) ≡ placed_max
+    pub length-image : (n : ℕ) → placement_rules ss n ≡ Ok tt → length (image_before file ss n) ≡ placed_max
     length-image n e = length_before n (end-inside ss n e)
 
 -- ---- what is kept for the symbols
@@ -250,5 +250,5 @@ module _ (ss : List SectionEntry) (n : ℕ) where
 -- ---- the answer
 
 -- both answers hold the verdict that they are given for
-pub placement-told : (file : List ℕ) (ss : List SectionEntry) (n : ℕ) → Told (λ p. p.answer.verdict) refused_placement (accepted_placement file ss n)
+pub placement-told : (file : List ℕ) (ss : List SectionEntry) (n : ℕ) → Told (λ p. verdict_of p.answer) refused_placement (accepted_placement file ss n)
 placement-told file ss n = record { refusing = λ r. refl; accepting = refl }

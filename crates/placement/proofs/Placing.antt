@@ -1,4 +1,5 @@
 -- The loop of `place`: what holds once the sections before section i are placed, where it begins, a turn of it, and its two ends.
+use Rattle.std.proofs.Common.{Ok, Err}
 use Prim.Native.Nat.{ℕ, ◌+◌, ◌-◌, ◌≤◌, ◌<◌}
 use mathlib.Core.Path.{◌≡◌, refl, sym, ap, ◌∙◌}
 use mathlib.Core.Bool.{Bool, true, false, cond}
@@ -12,14 +13,11 @@ use Rattle.words.specs.Scan.{scan}
 use Rattle.words.proofs.Scan.{begin, turn, end, fill-begin, fill-turn}
 use Rattle.records.specs.Limits.{sections_max, placed_max}
 use Rattle.records.specs.Verdict.{refusal, decide}
-use Rattle.records.specs.Refusal.{reason_for}
+use Rattle.records.specs.Refusal.{reason_for, Verdict}
 use Rattle.records.specs.declared.refusal.Place.TheVariants.{Section}
-use Rattle.records.specs.declared.refusal.Verdict.{Verdict}
-use Rattle.records.specs.declared.refusal.Verdict.TheVariants.{Pass, Refuse}
 use Rattle.object.specs.Sections.{section_in}
 use Rattle.object.specs.declared.sections.SectionEntry.{SectionEntry}
-use Rattle.placement.specs.declared.Step.{Step}
-use Rattle.placement.specs.declared.Step.TheVariants.{At, Over}
+use Rattle.std.proofs.Common.{Option, Some, None}
 use Rattle.placement.specs.Placement.{
   section_start,
   section_end,
@@ -50,23 +48,25 @@ module _ (before : ℕ) (s : SectionEntry) where
     pub start_is : start ≡ section_start before s
     pub next-is : next ≡ section_end before s
 
-  abbrev step_by : Bool → Step
-  step_by b = cond b (At (section_start before s) (section_end before s)) Over
+  abbrev step_by : Bool → Option (ℕ × ℕ)
+  step_by b = cond b (Some (section_start before s, section_end before s)) None
 
   -- what a step says: the section fits, or it does not
-  pub step-at : {start next : ℕ} → step_of before s ≡ At start next → Fits start next
+  pub step-at : {start next : ℕ} → step_of before s ≡ Some (start, next) → Fits start next
   unfolding step_of
   step-at {start} {next} e = by_cases (leb (section_end before s) placed_max) refl e
     where
-      by_cases : (b : Bool) → leb (section_end before s) placed_max ≡ b → step_by b ≡ At start next → Fits start next
-      by_cases true r h = record { room = leb-true _ _ r; start_is = cc; next-is = cc }
+      by_cases : (b : Bool) → leb (section_end before s) placed_max ≡ b → step_by b ≡ Some (start, next) → Fits start next
+      by_cases true r h =
+          let both : ◌≡◌ {A = ℕ × ℕ} (start, next) (section_start before s, section_end before s) = cc in
+          record { room = leb-true _ _ r; start_is = ap (λ (p : ℕ × ℕ). p.0) both; next-is = ap (λ (p : ℕ × ℕ). p.1) both }
       by_cases false r h = let never : ◌≡◌ {A = ℕ} 0 1 = cc in absurd (omega arith)
 
-  step-over : step_of before s ≡ Over → leb (section_end before s) placed_max ≡ false
+  step-over : step_of before s ≡ None → leb (section_end before s) placed_max ≡ false
   unfolding step_of
   step-over e = by_cases (leb (section_end before s) placed_max) e
     where
-      by_cases : (b : Bool) → step_by b ≡ Over → b ≡ false
+      by_cases : (b : Bool) → step_by b ≡ None → b ≡ false
       by_cases true h = cc
       by_cases false h = refl
 
@@ -80,7 +80,7 @@ pub record Placing (file : List ℕ) (ss : List SectionEntry) (count : ℕ) (off
   pub offsets_are : offsets ≡ (layout_of ss i).offsets
   pub bounds_are : bounds ≡ (layout_of ss i).bounds
   pub image_is : image ≡ image_before file ss i
-  pub rest : placement_rules ss count ≡ scan (one_placed ss) Pass i (count - i)
+  pub rest : placement_rules ss count ≡ scan (one_placed ss) (Ok tt) i (count - i)
 
 -- before the first section
 pub placing-begin :
@@ -107,7 +107,7 @@ module _
 
   -- a section that fits is placed
   pub placing-turn :
-      {start next : ℕ} → i < count → i < sections_max → step_of placed (section_in ss i) ≡ At start next →
+      {start next : ℕ} → i < count → i < sections_max → step_of placed (section_in ss i) ≡ Some (start, next) →
       Placing file ss count
       (set offsets i start)
       (set bounds i (bound_for (section_in ss i)))
@@ -128,18 +128,18 @@ module _
       }
 
   -- the first that does not fit refuses
-  pub placing-refuses : i < count → step_of placed (section_in ss i) ≡ Over → refused_at i ≡ placement_of file ss count
+  pub placing-refuses : i < count → step_of placed (section_in ss i) ≡ None → refused_at i ≡ placement_of file ss count
   unfolding end_before placement_of refused_at
   placing-refuses more e =
       let over = step-over (end_before ss i) (section_in ss i) (rw p.placed_is at e) in
-      let refused : placement_rules ss count ≡ Refuse (refusal (reason_for 12) (Section i)) = p.rest ∙ turn _ _ _ _ more ∙ rw over in
+      let refused : placement_rules ss count ≡ Err (refusal (reason_for 12) (Section i)) = p.rest ∙ turn _ _ _ _ more ∙ rw over in
       sym (ap (λ (v : Verdict). decide refused_placement (accepted_placement file ss count) v) refused)
 
   -- where all fit, they are placed
   pub placing-ends :
       count ≤ i →
       ◌≡◌ {A = PlacedSlot}
-      (placed_slot (record { verdict = Pass; layout = record { offsets = offsets; bounds = bounds }; placed = placed }) image)
+      (placed_slot (Ok (record { layout = record { offsets = offsets; bounds = bounds }; placed = placed })) image)
       (placement_of file ss count)
   unfolding placement_of
   placing-ends h =

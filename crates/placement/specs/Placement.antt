@@ -1,23 +1,19 @@
 -- Document 01: "Placement: in index order, each at the next multiple of its alignment (0 counts as 1) from the slot's start.
 -- Type 8 and gaps are zero. The placed bytes run to the last one's end."
-use Rattle.std.specs.Prelude.{ℕ, zero, suc, ◌+◌, ◌-◌, ◌%◌, Bool, cond, not, ◌&&◌, ◌||◌, List, leb, eqb, replicate}
+use Rattle.std.specs.Prelude.{ℕ, zero, suc, ◌+◌, ◌-◌, ◌%◌, Bool, cond, not, ◌&&◌, ◌||◌, List, leb, eqb, replicate, Option, Some, None, Result, Ok, Err}
 use Rattle.words.specs.Scan.{scan, filled}
 use Rattle.words.specs.Splice.{splice}
 use Rattle.records.specs.Limits.{sections_max, placed_max}
 use Rattle.records.specs.Verdict.{refusal, must, ◌then◌, decide}
-use Rattle.records.specs.Refusal.{reason_for}
+use Rattle.records.specs.Refusal.{reason_for, Verdict}
 use Rattle.records.specs.declared.refusal.Place.TheVariants.{Section}
 use Rattle.records.specs.declared.refusal.Refusal.{Refusal}
-use Rattle.records.specs.declared.refusal.Verdict.{Verdict}
-use Rattle.records.specs.declared.refusal.Verdict.TheVariants.{Pass, Refuse}
 use Rattle.kinds.specs.Kinds.{is_allocated, has_type, is_kind, is_note_kind}
 use Rattle.kinds.specs.declared.Kind.TheVariants.{Placed, Records}
 use Rattle.object.specs.Sections.{section_in, contents_of}
 use Rattle.object.specs.declared.sections.SectionEntry.{SectionEntry}
 use Rattle.placement.specs.declared.Layout.{Layout}
 use Rattle.placement.specs.declared.Placement.{Placement}
-use Rattle.placement.specs.declared.Step.{Step}
-use Rattle.placement.specs.declared.Step.TheVariants.{At, Over}
 
 -- "Placed: flag 0x2 with ..": every section of the kinds Placed and Records, and a note that has the flag
 unfoldable pub is_placed : SectionEntry → Bool
@@ -48,11 +44,11 @@ abbrev pub one_placed : List SectionEntry → ℕ → Verdict → Verdict
 one_placed ss i rest = must (leb (end_before ss (suc i)) placed_max) 12 (Section i) then rest
 
 unfoldable pub placement_rules : List SectionEntry → ℕ → Verdict
-placement_rules ss n = scan (one_placed ss) Pass 0 n
+placement_rules ss n = scan (one_placed ss) (Ok tt) 0 n
 
 -- one step of it, as the code takes it
-unfoldable pub step_of : ℕ → SectionEntry → Step
-step_of end s = cond (leb (section_end end s) placed_max) (At (section_start end s) (section_end end s)) Over
+unfoldable pub step_of : ℕ → SectionEntry → Option (ℕ × ℕ)
+step_of end s = cond (leb (section_end end s) placed_max) (Some (section_start end s, section_end end s)) None
 
 -- "Type 8 and gaps are zero": contents come from the file for the other types
 unfoldable pub has_contents : SectionEntry → Bool
@@ -85,24 +81,21 @@ layout_of ss n = record {
 -- ---- the answer, and the slot's bytes after it
 
 pub record PlacedSlot : Type 0 where
-  pub answer : Placement
+  pub answer : Result Placement Refusal
   pub image : List ℕ
 
-abbrev pub placed_slot : Placement → List ℕ → PlacedSlot
+abbrev pub placed_slot : Result Placement Refusal → List ℕ → PlacedSlot
 placed_slot answer image = record { answer = answer; image = image }
 
-abbrev pub no_layout : Layout
-no_layout = record { offsets = replicate sections_max 0; bounds = replicate sections_max 0 }
-
 abbrev pub refused_placement : Refusal → PlacedSlot
-refused_placement r = placed_slot (record { verdict = Refuse r; layout = no_layout; placed = 0 }) no_bytes
+refused_placement r = placed_slot (Err r) no_bytes
 
 unfoldable pub refused_at : ℕ → PlacedSlot
 refused_at i = refused_placement (refusal (reason_for 12) (Section i))
 
 abbrev pub accepted_placement : List ℕ → List SectionEntry → ℕ → PlacedSlot
 accepted_placement file ss n =
-    placed_slot (record { verdict = Pass; layout = layout_of ss n; placed = end_before ss n }) (image_before file ss n)
+    placed_slot (Ok (record { layout = layout_of ss n; placed = end_before ss n })) (image_before file ss n)
 
 unfoldable pub placement_of : List ℕ → List SectionEntry → ℕ → PlacedSlot
 placement_of file ss n = decide refused_placement (accepted_placement file ss n) (placement_rules ss n)

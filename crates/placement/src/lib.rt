@@ -18,7 +18,7 @@ ghost use Rattle.placement.specs.Placement.{
 use kinds::Kind;
 use object::sections::{self, SectionEntry};
 use records::payload::Payload;
-use records::refusal::{Place, Reason, Refusal, Verdict};
+use records::refusal::{self, Place, Reason, Refusal};
 
 // Where the sections stand.
 #[derive(Clone, Copy)]
@@ -29,20 +29,12 @@ pub struct Layout {
     pub bounds: [u64; Payload::SECTIONS_MAX],
 }
 
-// What placement decides: all zero where the verdict refuses.
+// What placement decides of a payload that fits.
 #[derive(Clone, Copy)]
 pub struct Placement {
-    pub verdict: Verdict,
     pub layout: Layout,
     // How many bytes are placed.
     pub placed: u64,
-}
-
-// Where a section starts, and where what is placed ends after it; or that it does not fit.
-#[derive(Clone, Copy)]
-pub enum Step {
-    At(u64, u64),
-    Over,
 }
 
 // Whether the section goes into the slot.
@@ -50,18 +42,10 @@ pub enum Step {
 pub fn is_placed(s: SectionEntry) -> bool
     ensures { result ≡ is_placed s }
 {
-    let h = s.header;
-    let kind = s.kind;
-    match kind {
+    match s.kind {
         Kind::Placed | Kind::Records => true,
-        Kind::Depends | Kind::BuildId => h.sh_flags & 2 == 2,
-        Kind::Null
-        | Kind::Unnamed
-        | Kind::Symbols
-        | Kind::Strings
-        | Kind::Relocations
-        | Kind::Ignored
-        | Kind::Unknown => false,
+        Kind::Depends | Kind::BuildId => s.header.sh_flags & 2 == 2,
+        _ => false,
     }
 }
 
@@ -80,20 +64,20 @@ fn next_multiple(at: u64, align: u64) -> u64
     at + (align - past)
 }
 
-// The next section, where `end` bytes are placed already.
-fn place_one(end: u64, s: SectionEntry) -> Step
+// Where the next section starts, if `end` bytes are placed already, and where what is placed ends after it; nothing where it does not fit.
+fn place_one(end: u64, s: SectionEntry) -> Option<(u64, u64)>
     requires { end ≤ placed_max }
     ensures { result ≡ step_of end s }
 {
     if !is_placed(s) {
-        return Step::At(0, end);
+        return Some((0, end));
     }
     let h = s.header;
     let start = next_multiple(end, h.sh_addralign);
     if !words::address::lies_within(start, h.sh_size, Payload::PLACED_MAX as u64) {
-        return Step::Over;
+        return None;
     }
-    Step::At(start, start + h.sh_size)
+    Some((start, start + h.sh_size))
 }
 
 // Whether a section's bytes are copied from the file: placed, and not of type 8.
@@ -120,23 +104,12 @@ fn bound_for(s: SectionEntry) -> u64
 }
 
 // Section i passes the slot's end; the slot's bytes are cleared.
-fn refuse_at(image: &mut [u8], i: u16) -> Placement
+fn refuse_at(image: &mut [u8], i: u16) -> Result<Placement, Refusal>
     requires { length image.old ≡ placed_max }
     ensures { placed_slot result image.new ≡ refused_at i }
 {
     words::bytes::fill(image, 0, Payload::PLACED_MAX, 0);
-    let layout = Layout {
-        offsets: [0u64; Payload::SECTIONS_MAX],
-        bounds: [0u64; Payload::SECTIONS_MAX],
-    };
-    Placement {
-        verdict: Verdict::Refuse(Refusal {
-            reason: Reason::NoRoom,
-            place: Place::Section(i),
-        }),
-        layout,
-        placed: 0,
-    }
+    refusal::refused(Reason::NoRoom, Place::Section(i))
 }
 
 // The placed sections in index order, each at the next multiple of its alignment. `image` is the slot's bytes, all zero.
@@ -145,17 +118,16 @@ pub fn place(
     file: &[u8],
     table: [SectionEntry; Payload::SECTIONS_MAX],
     count: usize,
-) -> Placement
+) -> Result<Placement, Refusal>
     requires { (count ≤ sections_max) × (image.old ≡ no_bytes) }
     ensures { placed_slot result image.new ≡ placement_of file.now table count }
 {
     let mut offsets = [0u64; Payload::SECTIONS_MAX];
     let mut bounds = [0u64; Payload::SECTIONS_MAX];
     let mut end = 0;
-    let mut i = 0;
-    while i < count {
+    for i in 0..count {
         let one = table[i];
-        let Step::At(start, next) = place_one(end, one) else {
+        let Some((start, next)) = place_one(end, one) else {
             return refuse_at(image, i as u16);
         };
         if has_contents(one) {
@@ -165,12 +137,10 @@ pub fn place(
         offsets[i] = start;
         bounds[i] = bound_for(one);
         end = next;
-        i += 1;
     }
     let layout = Layout { offsets, bounds };
-    Placement {
-        verdict: Verdict::Pass,
+    Ok(Placement {
         layout,
         placed: end,
-    }
+    })
 }

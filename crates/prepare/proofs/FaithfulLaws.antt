@@ -1,10 +1,11 @@
 -- The outcome of a preparation is faithful: it says of the payload what the rules say.
+use Rattle.records.specs.Refusal.{Verdict}
+use Rattle.std.proofs.Common.{Ok, Err}
 use Prim.Native.Nat.{ℕ}
 use mathlib.Core.Path.{◌≡◌, refl, ap, subst⁻¹, ◌∙◌}
 use mathlib.Core.Bool.{Bool, true, false}
 use mathlib.Core.List.{List}
-use Rattle.records.specs.declared.refusal.Verdict.{Verdict}
-use Rattle.records.specs.declared.refusal.Verdict.TheVariants.{Pass, Refuse}
+use Rattle.records.specs.Verdict.{verdict_of}
 use Rattle.records.proofs.Checks.{decided-verdict}
 use Rattle.acceptance.specs.Broken.{Exact}
 use Rattle.acceptance.specs.Consulted.{Alike}
@@ -16,9 +17,9 @@ use Rattle.prepare.proofs.OutcomeLaws.{outcome_by, outcome-told, prepared-by}
 
 module _ (t : Setting) (file image : List ℕ) where
   -- where the sizes are right, the verdict is that of the payload's own rules
-  own-rules : sizes_ok t image ≡ true → (prepare_of t file image).answer.verdict ≡ payload_rules t file
+  own-rules : sizes_ok t image ≡ true → verdict_of (prepare_of t file image).answer ≡ payload_rules t file
   own-rules sizes =
-      ap (λ (o : Outcome). o.answer.verdict) (prepared-by t file image sizes refl refl)
+      ap (λ (o : Outcome). verdict_of o.answer) (prepared-by t file image sizes refl refl)
       ∙ decided-verdict _ _ _ (outcome-told t file image) (payload_rules t file)
 
   -- a file that differs in no byte that is consulted has the same outcome
@@ -27,10 +28,10 @@ module _ (t : Setting) (file image : List ℕ) where
     same = alike_same t file other alike
 
     by-verdict : (v : Verdict) → payload_rules t file ≡ v → outcome_by t other image v ≡ outcome_by t file image v
-    by-verdict Pass e =
+    by-verdict (Ok _) e =
         let given = same.given e in
         rw (given.3, given.4, given.2, given.0, given.1)
-    by-verdict (Refuse r) e = refl
+    by-verdict (Err r) e = refl
 
     same_outcome : (sizes : Bool) → sizes_ok t image ≡ sizes → prepare_of t other image ≡ prepare_of t file image
     unfolding prepare_of prepare_rules

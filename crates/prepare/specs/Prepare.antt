@@ -1,12 +1,10 @@
 -- A payload prepared for its slot: document 01's rules of a payload in their order, and what an accepted one gives.
-use Rattle.std.specs.Prelude.{ℕ, Bool, true, ◌&&◌, ◌≡◌, List, leb, eqb, length, replicate}
-use Rattle.records.specs.Limits.{placed_max, records_max}
-use Rattle.records.specs.Payload.{no_edit, no_id}
-use Rattle.records.specs.Verdict.{must, ◌then◌, decide}
+use Rattle.records.specs.Refusal.{Verdict}
+use Rattle.std.specs.Prelude.{ℕ, Bool, true, ◌&&◌, ◌≡◌, List, leb, eqb, length, Result, Ok, Err}
+use Rattle.records.specs.Limits.{placed_max}
+use Rattle.records.specs.Verdict.{must, ◌then◌, decide, verdict_of}
 use Rattle.records.specs.declared.refusal.Place.TheVariants.{Nowhere}
 use Rattle.records.specs.declared.refusal.Refusal.{Refusal}
-use Rattle.records.specs.declared.refusal.Verdict.{Verdict}
-use Rattle.records.specs.declared.refusal.Verdict.TheVariants.{Pass, Refuse}
 use Rattle.machine.specs.Host.{text_max}
 use Rattle.machine.specs.Machine.{Machine}
 use Rattle.payload.specs.Reading.{read_rules}
@@ -33,34 +31,31 @@ use Rattle.prepare.specs.declared.prepare.Prepared.{Prepared}
 
 -- what build asks of the reading: it is that of the file, which passes
 pub record Ready (m : Machine) (file : List ℕ) (g : Reading) : Type 0 where
-  pub passes : read_rules m file ≡ Pass
+  pub passes : read_rules m file ≡ Ok tt
   pub read : g ≡ reading_for file
 
 -- the answer, and the slot's bytes after it
 pub record BuiltSlot : Type 0 where
-  pub answer : Built
+  pub answer : Result Built Refusal
   pub image : List ℕ
 
-abbrev pub built_slot : Built → List ℕ → BuiltSlot
+abbrev pub built_slot : Result Built Refusal → List ℕ → BuiltSlot
 built_slot answer image = record { answer = answer; image = image }
 
 abbrev pub refused_built : Refusal → BuiltSlot
-refused_built r =
-    record {
-      answer = record { verdict = Refuse r; placed = 0; edits = replicate records_max no_edit; edit_count = 0 };
-      image = no_bytes;
-    }
+refused_built r = built_slot (Err r) no_bytes
 
 abbrev pub accepted_built : Setting → List ℕ → BuiltSlot
 accepted_built t file =
     record {
       answer =
+          Ok (
           record {
-            verdict = Pass;
             placed = placed_length file;
             edits = edits_of (patching_of t file) (records_start file) (record_count file);
             edit_count = record_count file;
-          };
+          }
+          );
       image = (relocated_of t file).image;
     }
 
@@ -80,27 +75,16 @@ prepare_rules t file image = must (sizes_ok t image) 22 Nowhere then payload_rul
 -- ---- the answer, and the image buffer after it
 
 pub record Outcome : Type 0 where
-  pub answer : Prepared
+  pub answer : Result Prepared Refusal
   pub image : List ℕ
 
-abbrev pub outcome : Prepared → List ℕ → Outcome
+abbrev pub outcome : Result Prepared Refusal → List ℕ → Outcome
 outcome answer image = record { answer = answer; image = image }
 
-abbrev pub refused_prepared : Refusal → Prepared
-refused_prepared r =
-    record {
-      verdict = Refuse r;
-      id = no_id;
-      dependency = no_id;
-      placed = 0;
-      edits = replicate records_max no_edit;
-      edit_count = 0;
-    }
-
+-- what is prepared of a file that keeps the rules
 abbrev pub accepted_prepared : Setting → List ℕ → Prepared
 accepted_prepared t file =
     record {
-      verdict = Pass;
       id = (reading_for file).id;
       dependency = (reading_for file).dependency;
       placed = placed_length file;
@@ -111,13 +95,13 @@ accepted_prepared t file =
 -- a refusal leaves the image as it was
 unfoldable pub prepare_of : Setting → List ℕ → List ℕ → Outcome
 prepare_of t file image =
-    decide (λ r. outcome (refused_prepared r) image) (outcome (accepted_prepared t file) (relocated_of t file).image)
+    decide (λ r. outcome (Err r) image) (outcome (Ok (accepted_prepared t file)) (relocated_of t file).image)
     (prepare_rules t file image)
 
 -- what an outcome tells of the payload: where the sizes are right, it is accepted exactly when it keeps every rule, and a refusal names
 -- a rule that is broken; and a file that differs in no byte that is consulted, or only in bytes of ignored contents, has the same outcome
 pub record Faithful (t : Setting) (file image : List ℕ) (o : Outcome) : Type 0 where
-  pub exact : sizes_ok t image ≡ true → Exact t file o.answer.verdict
+  pub exact : sizes_ok t image ≡ true → Exact t file (verdict_of o.answer)
   pub unconsulted : (other : List ℕ) → Alike file other → prepare_of t other image ≡ o
   pub ignored : (other : List ℕ) → DifferInIgnored file other → prepare_of t other image ≡ o
 

@@ -11,30 +11,23 @@ use machine::host::Host;
 use object::sections::SectionEntry;
 use payload::read::Reading;
 use records::payload::{Edit, Payload};
-use records::refusal::{Refusal, Verdict};
+use records::refusal::Refusal;
 
-// What was built: all empty where the verdict refuses.
+// What is built of a payload that keeps the rules.
 #[derive(Clone, Copy)]
 pub struct Built {
-    pub verdict: Verdict,
     pub placed: u64,
     pub edits: [Edit; Payload::RECORDS_MAX],
     pub edit_count: usize,
 }
 
 // The slot's bytes are cleared.
-fn nothing_built(image: &mut [u8], r: Refusal) -> Built
+fn nothing_built(image: &mut [u8], r: Refusal) -> Result<Built, Refusal>
     requires { length image.old ≡ placed_max }
     ensures { built_slot result image.new ≡ refused_built r }
 {
     words::bytes::fill(image, 0, Payload::PLACED_MAX, 0);
-    let none = Edit::none();
-    Built {
-        verdict: Verdict::Refuse(r),
-        placed: 0,
-        edits: [none; Payload::RECORDS_MAX],
-        edit_count: 0,
-    }
+    Err(r)
 }
 
 // How many function records section i has.
@@ -48,19 +41,20 @@ fn record_count(table: [SectionEntry; Payload::SECTIONS_MAX], i: usize) -> usize
 }
 
 // The file, which is read, for the host's slot and text. `image` is the slot's bytes, all zero.
-pub fn build(image: &mut [u8], file: &[u8], list: &[u8], host: Host, reading: Reading) -> Built
+pub fn build(
+    image: &mut [u8],
+    file: &[u8],
+    list: &[u8],
+    host: Host,
+    reading: Reading,
+) -> Result<Built, Refusal>
     requires { Ready (host_machine host) file.now reading × (host.text_length ≤ text_max) × (image.old ≡ no_bytes) }
     ensures { built_slot result image.new ≡ built_of (setting host list.now) file.now }
 {
     let table = reading.sections;
-    let placement = placement::place(image, file, table, reading.count);
-    let placed_verdict = placement.verdict;
-    if let Verdict::Refuse(r) = placed_verdict {
-        return nothing_built(image, r);
-    }
+    let placement = placement::place(image, file, table, reading.count)?;
     let layout = placement.layout;
-    let relocated = relocation::relocate::relocate(image, file, list, host, reading, layout);
-    if let Verdict::Refuse(r) = relocated {
+    if let Err(r) = relocation::relocate::relocate(image, file, list, host, reading, layout) {
         return nothing_built(image, r);
     }
     let records = reading.records;
@@ -68,16 +62,15 @@ pub fn build(image: &mut [u8], file: &[u8], list: &[u8], host: Host, reading: Re
     let start = offsets[records] as usize;
     let end = placement.placed as usize;
     let count = record_count(table, records);
-    let found = functions::read::read_functions(host, &image[..end], list, start, count);
-    let found_verdict = found.verdict;
-    if let Verdict::Refuse(r) = found_verdict {
-        return nothing_built(image, r);
-    }
-    let edits = found.edits;
-    Built {
-        verdict: Verdict::Pass,
-        placed: placement.placed,
-        edits,
-        edit_count: found.count,
+    match functions::read::read_functions(host, &image[..end], list, start, count) {
+        Ok(found) => {
+            let edits = found.edits;
+            Ok(Built {
+                placed: placement.placed,
+                edits,
+                edit_count: found.count,
+            })
+        }
+        Err(r) => nothing_built(image, r),
     }
 }

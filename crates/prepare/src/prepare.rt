@@ -1,17 +1,16 @@
 // A payload prepared in one call.
 ghost use Rattle.std.specs.Prelude.{◌≡◌};
 ghost use Rattle.acceptance.specs.Stages.{setting};
-ghost use Rattle.prepare.specs.Prepare.{refused_prepared, outcome, Prepares};
+ghost use Rattle.prepare.specs.Prepare.{outcome, Prepares};
 
 use super::build;
 use machine::host::Host;
 use records::payload::{BuildId, Edit, Payload};
-use records::refusal::{Place, Reason, Refusal, Verdict};
+use records::refusal::{self, Place, Reason, Refusal};
 
-// What was prepared: all empty where the verdict refuses.
+// What is prepared of a payload that keeps the rules.
 #[derive(Clone, Copy)]
 pub struct Prepared {
-    pub verdict: Verdict,
     pub id: BuildId,
     pub dependency: BuildId,
     pub placed: u64,
@@ -19,59 +18,31 @@ pub struct Prepared {
     pub edit_count: usize,
 }
 
-fn refuse(r: Refusal) -> Prepared
-    ensures { result ≡ refused_prepared r }
-{
-    let no_edit = Edit::none();
-    let no_id = BuildId::none();
-    Prepared {
-        verdict: Verdict::Refuse(r),
-        id: no_id,
-        dependency: no_id,
-        placed: 0,
-        edits: [no_edit; Payload::RECORDS_MAX],
-        edit_count: 0,
-    }
-}
-
 // The payload `file` for the host's slot and text. `image` is the slot's 8,192 bytes; a refusal leaves them as they were. Any
 // bytes and any numbers get an answer.
-pub fn prepare(file: &[u8], list: &[u8], host: Host, image: &mut [u8]) -> Prepared
+pub fn prepare(file: &[u8], list: &[u8], host: Host, image: &mut [u8]) -> Result<Prepared, Refusal>
     ensures { Prepares (setting host list.now) file.now image.old
         (outcome result image.new) }
 {
-    let bad = Refusal {
-        reason: Reason::Invalid,
-        place: Place::Nowhere,
-    };
     if image.len() != Payload::PLACED_MAX {
-        return refuse(bad);
+        return refusal::refused(Reason::Invalid, Place::Nowhere);
     }
     if Host::TEXT_MAX < host.text_length {
-        return refuse(bad);
+        return refusal::refused(Reason::Invalid, Place::Nowhere);
     }
     let processor = host.processor;
-    let reading = payload::read::read(processor, file);
-    let read_verdict = reading.verdict;
-    if let Verdict::Refuse(r) = read_verdict {
-        return refuse(r);
-    }
+    let reading = payload::read::read(processor, file)?;
     let mut slot = [0u8; Payload::PLACED_MAX];
-    let built = build::build(&mut slot, file, list, host, reading);
-    let built_verdict = built.verdict;
-    if let Verdict::Refuse(r) = built_verdict {
-        return refuse(r);
-    }
+    let built = build::build(&mut slot, file, list, host, reading)?;
     words::bytes::copy(image, 0, &slot);
     let id = reading.id;
     let dependency = reading.dependency;
     let edits = built.edits;
-    Prepared {
-        verdict: Verdict::Pass,
+    Ok(Prepared {
         id,
         dependency,
         placed: built.placed,
         edits,
         edit_count: built.edit_count,
-    }
+    })
 }

@@ -1,9 +1,9 @@
 -- The top build-id. Document 01: "The id the stack stands on is the top payload's, or the hypervisor's when nothing is applied".
+use Rattle.records.specs.Refusal.{Verdict}
 use Rattle.std.specs.Prelude.{ℕ, ◌-◌, Bool, cond, ◌&&◌, ◌≡◌, List, [], leb, eqb, length, get_or}
 use Rattle.words.specs.Splice.{part}
 use Rattle.records.specs.Verdict.{must, decide}
 use Rattle.records.specs.declared.refusal.Place.TheVariants.{Nowhere}
-use Rattle.records.specs.declared.refusal.Verdict.{Verdict}
 use Rattle.memory.specs.Memory.{id_at, ids_size}
 use Rattle.state.specs.Find.{payload_in}
 use Rattle.state.specs.declared.state.State.{State}

@@ -1,48 +1,37 @@
 -- Get, list and the top build_id over the records buffer, by what the calls on the state answered.
+use Rattle.std.proofs.Common.{Result, map, append-nil, append_assoc}
 use Prim.Native.Nat.{ℕ}
 use mathlib.Core.Path.{◌≡◌, sym, ap, subst, ◌∙◌}
 use mathlib.Core.Bool.{true, false}
-use mathlib.Core.List.{List, ◌++◌}
-use native.Mathlib.Omega.{arith}
+use mathlib.Core.List.{List, [], ◌∷◌, ◌++◌}
 use borrow.Author.Tests.{eqb-true}
 use lib.Dec.{eqb}
-use lib.ListN.{length, length-append}
+use lib.ListN.{length}
 use Rattle.words.specs.Number.{le_bytes}
-use Rattle.words.specs.Splice.{splice}
-use Rattle.words.proofs.Number.{length-le_bytes}
-use Rattle.words.proofs.Splice.{splice-next, splice-whole}
 use Rattle.words.proofs.Tests.{both}
-use Rattle.records.specs.Refusal.{refusal_code}
-use Rattle.records.specs.Verdict.{decide}
-use Rattle.records.specs.declared.refusal.Verdict.{Verdict}
+use Rattle.records.specs.declared.refusal.Refusal.{Refusal}
 use Rattle.queries.specs.Get.{get_of}
 use Rattle.queries.specs.TopId.{top_place, id_sizes_ok}
 use Rattle.queries.specs.declared.get.Got.{Got}
 use Rattle.queries.specs.declared.top_id.IdPlace.{IdPlace}
 use Rattle.listing.specs.List as list
 use Rattle.listing.specs.declared.Listed.{Listed}
+use Rattle.state_bytes.specs.Fields.{chained}
 use Rattle.state_bytes.specs.Layout.{records_size}
 use Rattle.state_bytes.specs.Stored.{state_in, is_state}
-use Rattle.questions.specs.Questions.{Asked, asked, right_buffers, get_size, got_bytes, get_asked, list_size, listed_bytes, list_asking, list_asked, top_size, place_bytes, top_asked}
+use Rattle.questions.specs.Questions.{Asked, asked, right_buffers, get_size, get_answer, get_asked, list_size, listed_answer, list_answer, list_asking, list_asked, top_size, place_bytes, top_asked}
 use Rattle.calls.specs.Told.{invalid}
 use Rattle.state_bytes.proofs.Laws.{state-length}
 
 -- ---- numbers one behind the other
 
-pub two-laid : (s : List ℕ) (a b : ℕ) → length s ≡ get_size → splice (splice s 0 (le_bytes 4 a)) 4 (le_bytes 4 b) ≡ le_bytes 4 a ++ le_bytes 4 b
-two-laid s a b all =
-    splice-next s 0 4 (le_bytes 4 a) (le_bytes 4 b) (omega arith) (length-le_bytes 4 a)
-    ∙ splice-whole s (le_bytes 4 a ++ le_bytes 4 b) (simp (length-append, length-le_bytes) (sym all))
+pub two-chained : (a b : ℕ) → chained (map (le_bytes 4) (a ∷ b ∷ [])) ≡ le_bytes 4 a ++ le_bytes 4 b
+unfolding chained
+two-chained a b = simp append-nil
 
-pub three-laid :
-    (s : List ℕ) (a b c : ℕ) → length s ≡ list_size →
-    splice (splice (splice s 0 (le_bytes 4 a)) 4 (le_bytes 4 b)) 8 (le_bytes 4 c) ≡ le_bytes 4 a ++ le_bytes 4 b ++ le_bytes 4 c
-three-laid s a b c all =
-    rw (
-      splice-next s 0 4 (le_bytes 4 a) (le_bytes 4 b) (omega arith) (length-le_bytes 4 a),
-      splice-next s 0 8 (le_bytes 4 a ++ le_bytes 4 b) (le_bytes 4 c) (omega arith) (simp (length-append, length-le_bytes)),
-    )
-    (splice-whole s (le_bytes 4 a ++ le_bytes 4 b ++ le_bytes 4 c) (simp (length-append, length-le_bytes) (sym all)))
+pub three-chained : (a b c : ℕ) → chained (map (le_bytes 4) (a ∷ b ∷ c ∷ [])) ≡ le_bytes 4 a ++ le_bytes 4 b ++ le_bytes 4 c
+unfolding chained
+three-chained a b c = simp (append-nil, append_assoc)
 
 -- ---- right buffers
 
@@ -61,10 +50,10 @@ module _ (b name out : List ℕ) where
   get-wrong wrong e = rw (wrong, e)
 
   pub get-told :
-      (g : Got) (v : Verdict) {answer : ℕ} {after : List ℕ} → right_buffers b (length out) get_size ≡ true → g ≡ get_of (state_in b) name →
-      g.verdict ≡ v → asked answer after ≡ decide (λ r. asked (refusal_code r) out) (asked 0 (got_bytes g)) v → asked answer after ≡ get_asked b name out
+      (g : Result Got Refusal) {a : Asked} → right_buffers b (length out) get_size ≡ true → g ≡ get_of (state_in b) name → a ≡ get_answer g out →
+      a ≡ get_asked b name out
   unfolding get_asked
-  get-told g v right e told-v answered = answered ∙ rw (right, ← e, told-v)
+  get-told g right e answered = answered ∙ rw (right, e)
 
 -- ---- list
 
@@ -76,18 +65,11 @@ module _ (b : List ℕ) (idx nr : ℕ) (lent : list.Buffers) (out : List ℕ) wh
   list-wrong wrong e = rw (wrong, e)
 
   pub list-told :
-      (x : Listed) (v : Verdict) (after : list.Buffers) {a : Asked} → right_buffers b (length out) list_size ≡ true →
-      list.listing x after ≡ list.list_of (state_in b) idx nr lent → x.verdict ≡ v →
-      a ≡ decide (λ r. asked (refusal_code r) out) (asked 0 (listed_bytes x)) v → list_asking a after ≡ list_asked b idx nr lent out
+      (x : Result Listed Refusal) (after : list.Buffers) {a : Asked} → right_buffers b (length out) list_size ≡ true →
+      list.listing x after ≡ list.list_of (state_in b) idx nr lent → a ≡ listed_answer x out → list_asking a after ≡ list_asked b idx nr lent out
   unfolding list_asked
-  list-told x v after {a} right e told-v answered =
-      subst
-      (λ (y : list.Listing).
-      list_asking a after
-      ≡ list_asking (decide (λ r. asked (refusal_code r) out) (asked 0 (listed_bytes y.answer)) y.answer.verdict) y.after)
-      e
-      (rw (answered, told-v))
-      ∙ rw right
+  list-told x after right e answered =
+      ap (λ (a : Asked). list_asking a after) answered ∙ ap (λ (y : list.Listing). list_answer y out) e ∙ rw right
 
 -- ---- the top build_id
 

@@ -1,8 +1,9 @@
 -- The calls that change nothing but the caller's buffers: get, list and the top build-id, over the records buffer.
-use Rattle.std.specs.Prelude.{ℕ, Bool, cond, ◌&&◌, List, ◌++◌, eqb, length}
+use Rattle.std.specs.Prelude.{ℕ, Bool, cond, ◌&&◌, List, ◌++◌, eqb, length, Result, Ok, Err}
 use Rattle.words.specs.Number.{le_bytes}
 use Rattle.records.specs.Refusal.{refusal_code}
 use Rattle.records.specs.Verdict.{decide}
+use Rattle.records.specs.declared.refusal.Refusal.{Refusal}
 use Rattle.state.specs.declared.state.State.{State}
 use Rattle.queries.specs.Get.{get_of}
 use Rattle.queries.specs.TopId.{id_rules, top_place}
@@ -33,8 +34,9 @@ get_size = 8
 abbrev pub got_bytes : Got → List ℕ
 got_bytes g = le_bytes 4 g.status ++ le_bytes 4 g.result
 
-abbrev pub get_answer : Got → List ℕ → Asked
-get_answer g out = decide (λ r. asked (refusal_code r) out) (asked 0 (got_bytes g)) g.verdict
+abbrev pub get_answer : Result Got Refusal → List ℕ → Asked
+get_answer (Ok g) out = asked 0 (got_bytes g)
+get_answer (Err r) out = asked (refusal_code r) out
 
 unfoldable pub get_asked : List ℕ → List ℕ → List ℕ → Asked
 get_asked b name out = cond (right_buffers b (length out) get_size) (get_answer (get_of (state_in b) name) out) (asked invalid out)
@@ -55,9 +57,12 @@ pub record ListAsked : Type 0 where
 abbrev pub list_asking : Asked → list.Buffers → ListAsked
 list_asking a b = record { asked = a; buffers = b }
 
+abbrev pub listed_answer : Result Listed Refusal → List ℕ → Asked
+listed_answer (Ok x) out = asked 0 (listed_bytes x)
+listed_answer (Err r) out = asked (refusal_code r) out
+
 abbrev pub list_answer : list.Listing → List ℕ → ListAsked
-list_answer x out =
-    list_asking (decide (λ r. asked (refusal_code r) out) (asked 0 (listed_bytes x.answer)) x.answer.verdict) x.after
+list_answer x out = list_asking (listed_answer x.answer out) x.after
 
 unfoldable pub list_asked : List ℕ → ℕ → ℕ → list.Buffers → List ℕ → ListAsked
 list_asked b idx nr lent out =

@@ -1,21 +1,21 @@
 // Get, list and the top build_id over the records buffer. No function asks anything of its caller.
 #![tactic(auto)]
 
-ghost use Rattle.std.specs.Prelude.{◌≡◌, ◌++◌, length};
+ghost use Rattle.std.specs.Prelude.{◌≡◌, ◌*◌, length, map};
 ghost use Rattle.words.specs.Number.{le_bytes};
 ghost use Rattle.queries.specs.Get.{get_of};
 ghost use Rattle.listing.specs.List.{buffers};
+ghost use Rattle.state_bytes.specs.Fields.{chained};
 ghost use Rattle.state_bytes.specs.Layout.{records_size};
 ghost use Rattle.state_bytes.specs.Stored.{state_in};
-ghost use Rattle.questions.specs.Questions.{get_size, list_size, asked, get_asked, list_asking, list_asked, top_asked, right_buffers};
+ghost use Rattle.questions.specs.Questions.{asked, get_asked, list_asking, list_asked, top_asked, right_buffers};
 
 use in_place::{find, range};
 use queries::get::Got;
 use queries::{get, top_id};
 use records::name;
-use records::refusal::{Place, Reason, Refusal, Verdict};
+use records::refusal::{self, Place, Reason, Refusal};
 use state_bytes::{buffer, parts};
-use words::bytes::Found;
 
 // The bytes of the out buffers.
 const GET_SIZE: usize = 8;
@@ -34,30 +34,31 @@ fn right_buffers(records: &[u8], out: usize, size: usize) -> bool
     buffer::is_state(records)
 }
 
-// Two numbers of 4 bytes.
-fn write_two(out: &mut [u8], a: u32, b: u32)
-    requires { length out.old ≡ get_size }
-    ensures { out.new ≡ le_bytes 4 a ++ le_bytes 4 b }
+// The numbers, 4 bytes each, one behind the other.
+fn write_numbers(out: &mut [u8], numbers: &[u32])
+    requires { length out.old ≡ 4 * length numbers.now }
+    ensures { out.new ≡ chained (map (le_bytes 4) numbers.now) }
 {
-    words::le::write(out, 0, 4, a as u64);
-    words::le::write(out, 4, 4, b as u64);
+    for (i, number) in numbers.iter().enumerate() {
+        words::le::write(out, 4 * i, 4, *number as u64);
+    }
 }
 
 // The payload of this name, found in the records.
-fn get_in(records: &[u8], name: &[u8]) -> Got
+fn get_in(records: &[u8], name: &[u8]) -> Result<Got, Refusal>
     requires { length records.now ≡ records_size }
     ensures { result ≡ get_of (state_in records.now) name.now }
 {
     if !range::in_range(records) {
-        return get::refuse(Reason::Invalid);
+        return refusal::refused(Reason::Invalid, Place::Nowhere);
     }
     if !name::is_name(name) {
-        return get::refuse(Reason::Invalid);
+        return refusal::refused(Reason::Invalid, Place::Nowhere);
     }
-    let Found::At(i) = find::with_name(records, name) else {
-        return get::refuse(Reason::NotLoaded);
+    let Some(i) = find::with_name(records, name) else {
+        return refusal::refused(Reason::NotLoaded, Place::Nowhere);
     };
-    get::answer(parts::payload(records, i))
+    Ok(get::answer(parts::payload(records, i)))
 }
 
 // Status and last result of the payload of this name.
@@ -67,23 +68,13 @@ pub fn get(records: &[u8], name: &[u8], out: &mut [u8]) -> u64
     if !right_buffers(records, out.len(), GET_SIZE) {
         return Refusal::new(Reason::Invalid, Place::Nowhere).code();
     }
-    let got = get_in(records, name);
-    let verdict = got.verdict;
-    if let Verdict::Refuse(r) = verdict {
-        return r.code();
+    match get_in(records, name) {
+        Ok(got) => {
+            write_numbers(out, &[got.status, got.result]);
+            0
+        }
+        Err(r) => r.code(),
     }
-    write_two(out, got.status, got.result);
-    0
-}
-
-// Three numbers of 4 bytes.
-fn write_three(out: &mut [u8], a: u32, b: u32, c: u32)
-    requires { length out.old ≡ list_size }
-    ensures { out.new ≡ le_bytes 4 a ++ le_bytes 4 b ++ le_bytes 4 c }
-{
-    words::le::write(out, 0, 4, a as u64);
-    words::le::write(out, 4, 4, b as u64);
-    words::le::write(out, 8, 4, c as u64);
 }
 
 // The list of payloads from `idx` on, at most `nr`.
@@ -103,13 +94,13 @@ pub fn list(
     if !right_buffers(records, out.len(), LIST_SIZE) {
         return Refusal::new(Reason::Invalid, Place::Nowhere).code();
     }
-    let listed = listing::list(buffer::load(records), idx, nr, statuses, names, lengths);
-    let verdict = listed.verdict;
-    if let Verdict::Refuse(r) = verdict {
-        return r.code();
+    match listing::list(buffer::load(records), idx, nr, statuses, names, lengths) {
+        Ok(listed) => {
+            write_numbers(out, &[listed.written, listed.left, listed.version]);
+            0
+        }
+        Err(r) => r.code(),
     }
-    write_three(out, listed.written, listed.left, listed.version);
-    0
 }
 
 // Where the top build_id stands: in which buffer, from where on, and its length.
@@ -125,6 +116,6 @@ pub fn top_build_id(records: &[u8], build_id: &[u8], ids: &[u8], out: &mut [u8])
         return Refusal::new(Reason::Invalid, Place::Nowhere).code();
     }
     let place = top_id::top_place(state);
-    write_three(out, place.buffer, place.offset, place.length);
+    write_numbers(out, &[place.buffer, place.offset, place.length]);
     0
 }

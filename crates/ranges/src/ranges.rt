@@ -28,7 +28,6 @@ use outlines::{counts, outline};
 use records::name;
 use records::payload::{Edit, EditKind, Payload};
 use state::state::{Job, State};
-use words::bytes::Found;
 
 fn is_edit_length(processor: Processor, kind: EditKind, length: u32) -> bool
     ensures { result ≡ is_edit_length (machine_of processor) kind length }
@@ -55,14 +54,9 @@ fn all_edits_in_range(config: Config, edits: [Edit; Payload::RECORDS_MAX], count
     requires { count ≤ records_max }
     ensures { result ≡ every (edit_in_range config) (take count edits) }
 {
-    let mut i = 0;
-    while i < count {
-        if !edit_in_range(config, edits[i]) {
-            return false;
-        }
-        i += 1;
-    }
-    true
+    edits[..count]
+        .iter()
+        .all(|edit| edit_in_range(config, *edit))
 }
 
 fn name_in_range(payload: Payload) -> bool
@@ -139,14 +133,10 @@ fn stack_in_range(outline: Outline) -> bool
     requires { (outline.count ≤ slot_count) × (outline.depth ≤ slot_count) }
     ensures { (s : State) → Outlines outline s → result ≡ every (is_taken s) (stack_of s) }
 {
-    let mut i = 0;
-    while i < outline.depth {
-        let Found::At(_) = outline::with_slot(outline, outline.stack[i]) else {
-            return false;
-        };
-        i += 1;
-    }
-    true
+    outline.stack[..outline.depth].iter().all(|slot| matches!(
+        outline::with_slot(outline, *slot),
+        Some(_)
+    ))
 }
 
 fn is_job_action(action: u32) -> bool
@@ -177,7 +167,7 @@ fn job_in_range(outline: Outline) -> bool
     if !is_job_action(outline.action) {
         return false;
     }
-    let Found::At(_) = outline::with_slot(outline, outline.slot) else {
+    let Some(_) = outline::with_slot(outline, outline.slot) else {
         return false;
     };
     if !stack_fits(outline) {
@@ -214,12 +204,11 @@ pub fn in_range(state: State) -> bool
     if Config::SLOTS < state.count {
         return false;
     }
-    let mut i = 0;
-    while i < state.count {
-        if !payload_in_range(config, state.payloads[i]) {
-            return false;
-        }
-        i += 1;
+    if !state.payloads[..state.count]
+        .iter()
+        .all(|payload| payload_in_range(config, *payload))
+    {
+        return false;
     }
     if state.count < state.depth {
         return false;

@@ -1,11 +1,10 @@
 -- Document 01: "by a reader that holds the section's bytes and its position": the entries of a relocation section, by a cursor and by a reader.
-use Rattle.std.specs.Prelude.{ℕ, ◌+◌, ◌*◌, ◌/◌, cond, List, ltb, length}
+use Rattle.std.specs.Prelude.{ℕ, ◌+◌, ◌*◌, ◌/◌, cond, List, ltb, length, Option, Some, None}
 use Rattle.std.specs.Borrow.{Bor}
 use Rattle.elf.specs.Layout.{relocation_size, relocation_of}
+use Rattle.elf.specs.declared.Relocation.{Relocation}
 use Rattle.reader.specs.declared.Reader.{Reader}
 use Rattle.reader.specs.declared.cursor.Cursor.{Cursor}
-use Rattle.reader.specs.declared.cursor.Next.{Next}
-use Rattle.reader.specs.declared.cursor.Next.TheVariants.{Entry, End}
 
 abbrev pub cursor_at : ℕ → Cursor
 cursor_at e = record { entry = e }
@@ -17,9 +16,13 @@ first = cursor_at 0
 abbrev pub relocation_count : List ℕ → ℕ
 relocation_count entries = length entries / relocation_size
 
+-- the entry at a cursor and the cursor after it; nothing where no whole entry is left
+abbrev pub Next : Type 0
+Next = Option (Relocation × Cursor)
+
 unfoldable pub next_of : List ℕ → Cursor → Next
 next_of entries c =
-    cond (ltb c.entry (relocation_count entries)) (Entry (relocation_of entries (relocation_size * c.entry)) (cursor_at (c.entry + 1))) End
+    cond (ltb c.entry (relocation_count entries)) (Some (relocation_of entries (relocation_size * c.entry), cursor_at (c.entry + 1))) None
 
 -- entry e and the cursor after it, or the end
 abbrev pub next_from : List ℕ → ℕ → Next

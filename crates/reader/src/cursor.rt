@@ -10,13 +10,6 @@ pub struct Cursor {
     pub entry: usize,
 }
 
-// The entry at a cursor and the cursor after it, or that no whole entry is left.
-#[derive(Clone, Copy)]
-pub enum Next {
-    Entry(Relocation, Cursor),
-    End,
-}
-
 impl Cursor {
     pub fn start() -> Self
         ensures { result ≡ first }
@@ -24,14 +17,15 @@ impl Cursor {
         Cursor { entry: 0 }
     }
 
-    pub fn next(self, entries: &[u8]) -> Next
+    // The entry at a cursor and the cursor after it; nothing where no whole entry is left.
+    pub fn next(self, entries: &[u8]) -> Option<(Relocation, Cursor)>
         ensures { result ≡ next_of entries.now self }
     {
         let e = self.entry;
         if entries.len() / elf::RELOCATION_SIZE <= e {
-            return Next::End;
+            return None;
         }
         let r = elf::read_relocation(entries, elf::RELOCATION_SIZE * e);
-        Next::Entry(r, Cursor { entry: e + 1 })
+        Some((r, Cursor { entry: e + 1 }))
     }
 }

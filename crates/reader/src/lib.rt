@@ -5,7 +5,8 @@
 ghost use Rattle.std.specs.Prelude.{◌≡◌};
 ghost use Rattle.reader.specs.Entries.{next_from, reader_at, next_in};
 
-use cursor::{Cursor, Next};
+use cursor::Cursor;
+use elf::Relocation;
 
 pub mod cursor;
 
@@ -23,8 +24,8 @@ impl<'a> Reader<'a> {
         Reader { bytes, at }
     }
 
-    // The next entry and the cursor after it, or that no whole entry is left.
-    pub fn next(self) -> Next
+    // The next entry and the cursor after it; nothing where no whole entry is left.
+    pub fn next(self) -> Option<(Relocation, Cursor)>
         ensures { result ≡ next_in self.entry }
     {
         let cursor = Cursor { entry: self.at };
@@ -33,7 +34,7 @@ impl<'a> Reader<'a> {
 }
 
 // What a reader of these bytes answers at this entry.
-pub fn next_entry(entries: &[u8], at: usize) -> Next
+pub fn next_entry(entries: &[u8], at: usize) -> Option<(Relocation, Cursor)>
     ensures { result ≡ next_from entries.now at }
 {
     Reader::new(entries, at).next()

@@ -1,12 +1,11 @@
 -- The numbers of the reasons: a number tells its reason, and none is 0.
+use Rattle.std.proofs.Common.{Ok, Err}
 use Prim.Native.Nat.{◌≤◌}
 use mathlib.Core.Path.{◌≡◌, refl}
 use native.Mathlib.Omega.{arith}
-use Rattle.records.specs.Refusal.{number_of, reason_for, refusal_code, verdict_code}
+use Rattle.records.specs.Refusal.{number_of, reason_for, refusal_code, verdict_code, Verdict}
 use Rattle.records.specs.declared.refusal.Reason as declared
 use Rattle.records.specs.declared.refusal.Refusal.{Refusal}
-use Rattle.records.specs.declared.refusal.Verdict.{Verdict}
-use Rattle.records.specs.declared.refusal.Verdict.TheVariants.{Pass, Refuse}
 
 pub record Numbered (reason : declared.Reason) : Type 0 where
   pub back : reason_for (number_of reason) ≡ reason
@@ -30,6 +29,6 @@ unfolding refusal_code
 code-some r e = omega (arith, (numbered r.reason).some)
 
 -- 0 is the number of no refusal
-pub code-zero : (v : Verdict) → verdict_code v ≡ 0 → v ≡ Pass
-code-zero Pass e = refl
-code-zero (Refuse r) e = absurd (code-some r e)
+pub code-zero : (v : Verdict) → verdict_code v ≡ 0 → v ≡ Ok tt
+code-zero (Ok _) e = refl
+code-zero (Err r) e = absurd (code-some r e)

@@ -1,5 +1,5 @@
 -- Document 01, "When the loader says no": each case's number, and what a place prints.
-use Rattle.std.specs.Prelude.{ℕ, ◌+◌, ◌*◌, ◌^◌, cond, eqb}
+use Rattle.std.specs.Prelude.{ℕ, ◌+◌, ◌*◌, ◌^◌, cond, eqb, Result, Ok, Err}
 use Rattle.records.specs.declared.refusal.Reason.{Reason}
 use Rattle.records.specs.declared.refusal.Reason.TheVariants.{
   NotLoaded,
@@ -17,8 +17,6 @@ use Rattle.records.specs.declared.refusal.Reason.TheVariants.{
 use Rattle.records.specs.declared.refusal.Place.{Place}
 use Rattle.records.specs.declared.refusal.Place.TheVariants.{Nowhere, Section, Entry, Record}
 use Rattle.records.specs.declared.refusal.Refusal.{Refusal}
-use Rattle.records.specs.declared.refusal.Verdict.{Verdict}
-use Rattle.records.specs.declared.refusal.Verdict.TheVariants.{Pass, Refuse}
 
 -- the table, row by row
 abbrev pub number_of : Reason → ℕ
@@ -87,7 +85,11 @@ refusal_code r =
     + 2 ^ 16 * place_first r.place
     + 2 ^ 32 * place_second r.place
 
+-- what a check says: nothing against it, or why not
+abbrev pub Verdict : Type 0
+Verdict = Result (Unit {0}) Refusal
+
 -- a verdict in one number: 0 is no refusal
 abbrev pub verdict_code : Verdict → ℕ
-verdict_code Pass = 0
-verdict_code (Refuse r) = refusal_code r
+verdict_code (Ok _) = 0
+verdict_code (Err r) = refusal_code r

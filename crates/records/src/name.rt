@@ -3,7 +3,6 @@ ghost use Rattle.std.specs.Prelude.{◌≡◌};
 ghost use Rattle.records.specs.Name.{is_name};
 
 use super::payload::Payload;
-use words::bytes::Found;
 
 // Whether the bytes are a name: 2 to 128 of them, the last zero and no other.
 pub fn is_name(name: &[u8]) -> bool
@@ -15,7 +14,7 @@ pub fn is_name(name: &[u8]) -> bool
     if Payload::NAME_MAX < name.len() {
         return false;
     }
-    let Found::At(end) = words::bytes::find_zero(name, 0) else {
+    let Some(end) = words::bytes::find_zero(name, 0) else {
         return false;
     };
     end == name.len() - 1

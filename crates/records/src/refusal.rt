@@ -1,8 +1,7 @@
 // Why and where a request is refused.
-ghost use Rattle.std.specs.Prelude.{◌≡◌, ◌<◌};
+ghost use Rattle.std.specs.Prelude.{◌≡◌, ◌<◌, Err};
 ghost use Rattle.records.specs.Refusal.{number_of, refusal_code, verdict_code};
 ghost use Rattle.records.specs.Verdict.{refusal};
-ghost use Rattle.records.specs.declared.refusal.Verdict.TheVariants.{Refuse};
 
 // The cases of document 01's table "When the loader says no". specs/Refusal.antt gives each its number.
 #[derive(Clone, Copy)]
@@ -33,13 +32,6 @@ pub enum Place {
 pub struct Refusal {
     pub reason: Reason,
     pub place: Place,
-}
-
-// What a check says: nothing against it, or why not.
-#[derive(Clone, Copy)]
-pub enum Verdict {
-    Pass,
-    Refuse(Refusal),
 }
 
 impl Reason {
@@ -86,21 +78,19 @@ impl Refusal {
     }
 }
 
-impl Verdict {
-    // A refusal for this reason at this place.
-    pub fn refused(reason: Reason, place: Place) -> Self
-        ensures { result ≡ Refuse (refusal reason place) }
-    {
-        Verdict::Refuse(Refusal::new(reason, place))
-    }
+// Refused for this reason at this place.
+pub fn refused<T>(reason: Reason, place: Place) -> Result<T, Refusal>
+    ensures { result ≡ Err (refusal reason place) }
+{
+    Err(Refusal::new(reason, place))
+}
 
-    // 0 where nothing stands against it, else the refusal in one number.
-    pub fn code(self) -> u64
-        ensures { result ≡ verdict_code self }
-    {
-        match self {
-            Verdict::Pass => 0,
-            Verdict::Refuse(r) => r.code(),
-        }
+// What a check says in one number: 0 where nothing stands against it, else the refusal's.
+pub fn code(verdict: Result<(), Refusal>) -> u64
+    ensures { result ≡ verdict_code verdict }
+{
+    match verdict {
+        Ok(()) => 0,
+        Err(r) => r.code(),
     }
 }

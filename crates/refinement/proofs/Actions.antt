@@ -1,9 +1,9 @@
 -- An action gives the model's reply, and what it leaves stands for the model after it.
+use Rattle.std.proofs.Common.{Some, None, Option, ℕ, Ok, Err}
 use Prim.Native.Nat.{ℕ, zero, suc, ◌≤◌, ◌<◌}
 use mathlib.Core.Path.{◌≡◌, refl, sym, ap, subst, ◌∙◌}
 use mathlib.Core.Bool.{Bool, true, false, cond, not}
 use mathlib.Core.List.{List, [], ◌∷◌}
-use mathlib.Core.Option.{Option, none, some}
 use native.Mathlib.Omega.{arith}
 use borrow.Author.Tests.{le-leb, eq-eqb, ne_eqb, eqb-true, not-true}
 use lib.Dec.{eqb}
@@ -11,14 +11,11 @@ use lib.ListN.{length, take, replicate, length-replicate}
 use lib.Seq.{take_at}
 use Rattle.words.specs.Name.{is_found}
 use Rattle.words.specs.Splice.{splice}
-use Rattle.words.specs.declared.bytes.Found.{Found}
-use Rattle.words.specs.declared.bytes.Found.TheVariants.{At, Nothing}
 use Rattle.records.specs.Name.{is_name}
 use Rattle.records.specs.Refusal.{number_of}
 use Rattle.records.specs.Verdict.{must, decide}
 use Rattle.records.specs.declared.payload.Payload.{Payload}
 use Rattle.records.specs.declared.refusal.Place.TheVariants.{Nowhere}
-use Rattle.records.specs.declared.refusal.Verdict.TheVariants.{Pass, Refuse}
 use Rattle.records.proofs.Checks.{must-pass, then-pass}
 use Rattle.memory.specs.Config.{cpus_max}
 use Rattle.memory.specs.Memory.{arena_size, undo_size, ids_size}
@@ -86,8 +83,8 @@ module _ {u : Loader} {l : Model} (k : Stands u l) (sound : Sound l) where
       (command : ℕ) (p : Loaded) (o : Option Job) → JobsStand l.start.cpus u.state.job o → SoundJobs l o →
       actions.is_busy u.state command (record_of p) ≡ model.is_busy o command p
   unfolding actions.is_busy record_of
-  is-busy command p none stands good = rw (eq-eqb u.state.job.action 0 stands)
-  is-busy command p (some j) stands good =
+  is-busy command p None stands good = rw (eq-eqb u.state.job.action 0 stands)
+  is-busy command p (Some j) stands good =
       rw (ne_eqb u.state.job.action 0 (λ e. omega (arith, stands.action, good.action_low)), stands.slot)
 
   is-top : (p : Loaded) (stack : List ℕ) → l.stack ≡ stack → actions.is_top u.state (record_of p) ≡ model.is_top stack p
@@ -121,7 +118,7 @@ module _ {u : Loader} {l : Model} (k : Stands u l) (sound : Sound l) where
 
   -- ---- a result set
 
-  counted : (name : List ℕ) (i : ℕ) → model.with_name l name ≡ At i → i < length l.payloads
+  counted : (name : List ℕ) (i : ℕ) → model.with_name l name ≡ Some i → i < length l.payloads
   counted name = name-counted k.state name
 
   result-set :
@@ -130,7 +127,7 @@ module _ {u : Loader} {l : Model} (k : Stands u l) (sound : Sound l) where
       (model.changed_found (model.with_result n) l (model.with_name l name))
   result-set n name =
       subst
-      (λ (x : Found).
+      (λ (x : Option ℕ).
       Stands (with_state (changed_found (kept.with_result n) u.state x) u)
       (model.changed_found (model.with_result n) l (model.with_name l name)))
       (sym (with-name k.state name))
@@ -139,17 +136,17 @@ module _ {u : Loader} {l : Model} (k : Stands u l) (sound : Sound l) where
   -- ---- a job begun
 
   module _ (command time : ℕ) where
-    abbrev Begun : Found → Found → Type 0
+    abbrev Begun : Option ℕ → Option ℕ → Type 0
     Begun x y =
         Stands
         (with_state
         (kept.with_job (actions.job_for command (state.payload_found u.state x).slot time)
         (changed_found (kept.with_result 11) u.state x))
         u)
-        (model.with_job (some (model.job_for l command (model.payload_found l y) time)) (model.changed_found (model.with_result 11) l y))
+        (model.with_job (Some (model.job_for l command (model.payload_found l y) time)) (model.changed_found (model.with_result 11) l y))
 
     job-new :
-        (x : Found) → ((i : ℕ) → x ≡ At i → i < length l.payloads) →
+        (x : Option ℕ) → ((i : ℕ) → x ≡ Some i → i < length l.payloads) →
         JobStands l.start.cpus (actions.job_for command (state.payload_found u.state x).slot time)
         (model.job_for l command (model.payload_found l x) time)
     unfolding record_of
@@ -162,46 +159,46 @@ module _ {u : Loader} {l : Model} (k : Stands u l) (sound : Sound l) where
           steps = refl;
         }
 
-    begun : (x : Found) → ((i : ℕ) → x ≡ At i → i < length l.payloads) → Begun x x
-    begun (At i) inside =
-        job-stands (found-stands (kept.with_result 11) (model.with_result 11) (result-change 11) k (At i) inside) _ (some _) (job-new (At i) inside)
+    begun : (x : Option ℕ) → ((i : ℕ) → x ≡ Some i → i < length l.payloads) → Begun x x
+    begun (Some i) inside =
+        job-stands (found-stands (kept.with_result 11) (model.with_result 11) (result-change 11) k (Some i) inside) _ (Some _) (job-new (Some i) inside)
         (length-replicate cpus_max false)
-    begun Nothing inside = job-stands k _ (some _) (job-new Nothing inside) (length-replicate cpus_max false)
+    begun None inside = job-stands k _ (Some _) (job-new None inside) (length-replicate cpus_max false)
 
     job-begun :
         (name : List ℕ) →
         Stands (with_state (actions.job_begun u.state (actions.request name command time)) u)
-        (model.with_job (some (model.job_for l command (model.named l name) time))
+        (model.with_job (Some (model.job_for l command (model.named l name) time))
         (model.changed_found (model.with_result 11) l (model.with_name l name)))
     unfolding actions.job_begun
     job-begun name =
-        subst (λ (x : Found). Begun x (model.with_name l name)) (sym (with-name k.state name))
+        subst (λ (x : Option ℕ). Begun x (model.with_name l name)) (sym (with-name k.state name))
         (begun (model.with_name l name) (counted name))
 
   -- ---- what an accepted action leaves
 
-  abbrev unloaded_by : Found → actions.Acted
+  abbrev unloaded_by : Option ℕ → actions.Acted
   unloaded_by x =
       record {
-        answer = Pass;
+        answer = Ok tt;
         state = actions.unloaded_at u.state x;
         after = actions.cleared (state.payload_found u.state x).slot (lent_by u);
       }
 
-  abbrev Left : Found → Found → Type 0
+  abbrev Left : Option ℕ → Option ℕ → Type 0
   Left x y =
       Stands (after_action u (unloaded_by x)) (model.with_list (model.without y l.payloads) l)
 
   unloaded :
-      (y : Found) → ((i : ℕ) → y ≡ At i → i < length l.payloads) → is_found y ≡ true → (model.payload_found l y).status ≡ 1 →
+      (y : Option ℕ) → ((i : ℕ) → y ≡ Some i → i < length l.payloads) → is_found y ≡ true → (model.payload_found l y).status ≡ 1 →
       model.is_busy l.job 1 (model.payload_found l y) ≡ false → Left y y
-  unloaded (At i) inside found checked free = stands-left k sound i (inside i refl) checked free
-  unloaded Nothing inside found checked free =
+  unloaded (Some i) inside found checked free = stands-left k sound i (inside i refl) checked free
+  unloaded None inside found checked free =
       let never : ◌≡◌ {A = ℕ} 0 1 = cc in
       absurd (omega arith)
 
   unload-left :
-      (name : List ℕ) → model.request_rules l name 1 ≡ Pass → model.condition_rules l 1 (model.named l name) ≡ Pass →
+      (name : List ℕ) → model.request_rules l name 1 ≡ Ok tt → model.condition_rules l 1 (model.named l name) ≡ Ok tt →
       Left (state.with_name u.state name) (model.with_name l name)
   unfolding model.request_rules model.condition_rules
   unload-left name asked may =
@@ -209,7 +206,7 @@ module _ {u : Loader} {l : Model} (k : Stands u l) (sound : Sound l) where
       let loaded = then-pass (must (is_found (model.with_name l name)) 2 Nowhere) _ named.1 in
       let free = must-pass (not (model.is_busy l.job 1 (model.named l name))) 16 Nowhere loaded.1 in
       let status = then-pass (must (eqb (model.named l name).status 1) 22 Nowhere) _ may in
-      subst (λ (x : Found). Left x (model.with_name l name)) (sym (with-name k.state name))
+      subst (λ (x : Option ℕ). Left x (model.with_name l name)) (sym (with-name k.state name))
       (unloaded (model.with_name l name) (counted name) (must-pass _ 2 Nowhere loaded.0)
       (eqb-true _ _ (must-pass _ 22 Nowhere status.0))
       (not-true _ free))
@@ -217,16 +214,16 @@ module _ {u : Loader} {l : Model} (k : Stands u l) (sound : Sound l) where
   module _ (name : List ℕ) (command time : ℕ) where
     -- by the command
     done-agrees :
-        (t : Bool) → eqb command 1 ≡ t → model.request_rules l name command ≡ Pass →
-        model.condition_rules l command (model.named l name) ≡ Pass →
+        (t : Bool) → eqb command 1 ≡ t → model.request_rules l name command ≡ Ok tt →
+        model.condition_rules l command (model.named l name) ≡ Ok tt →
         ActionAgrees u
         (cond t (unloaded_by (state.with_name u.state name))
-        (record { answer = Pass; state = actions.job_begun u.state (actions.request name command time); after = lent_by u }))
+        (record { answer = Ok tt; state = actions.job_begun u.state (actions.request name command time); after = lent_by u }))
         (model.told
         (cond t (model.with_list (model.without (model.with_name l name) l.payloads) l)
-        (model.with_job (some (model.job_for l command (model.named l name) time))
+        (model.with_job (Some (model.job_for l command (model.named l name) time))
         (model.changed_found (model.with_result 11) l (model.with_name l name))))
-        (Says Pass))
+        (Says (Ok tt)))
     done-agrees true e asked may =
         let unload : command ≡ 1 = eqb-true command 1 e in
         (refl, unload-left name (rw unload at asked) (rw unload at may))
@@ -238,11 +235,11 @@ module _ {u : Loader} {l : Model} (k : Stands u l) (sound : Sound l) where
     same-conditions = rw (target_is name) (condition-rules command (model.named l name))
 
     on_agrees :
-        model.request_rules l name command ≡ Pass →
+        model.request_rules l name command ≡ Ok tt →
         ActionAgrees u (actions.action_on u.state u.build_id (lent_by u) (actions.request name command time))
         (decide
-        (λ r. model.told (model.changed_found (model.with_result (number_of r.reason)) l (model.with_name l name)) (Says (Refuse r)))
-        (model.told (model.acted l name command time) (Says Pass))
+        (λ r. model.told (model.changed_found (model.with_result (number_of r.reason)) l (model.with_name l name)) (Says (Err r)))
+        (model.told (model.acted l name command time) (Says (Ok tt)))
         (model.condition_rules l command (model.named l name)))
     unfolding actions.action_on
     on_agrees asked =

@@ -1,13 +1,11 @@
 -- What a loader with one payload changed, or with another job, stands for.
+use Rattle.std.proofs.Common.{Some, None, Option, ℕ}
 use Prim.Native.Nat.{ℕ, zero, suc, ◌<◌}
 use mathlib.Core.Path.{◌≡◌, refl, sym, ap, subst, ◌∙◌}
 use mathlib.Core.List.{List, [], ◌∷◌, map}
-use mathlib.Core.Option.{Option}
 use native.Mathlib.Omega.{arith}
 use lib.ListN.{length, get_or, set, length-set}
 use lib.Seq.{take-set-lt}
-use Rattle.words.specs.declared.bytes.Found.{Found}
-use Rattle.words.specs.declared.bytes.Found.TheVariants.{At, Nothing}
 use Rattle.records.specs.Limits.{placed_max, id_max}
 use Rattle.records.specs.declared.payload.Payload.{Payload}
 use Rattle.memory.specs.Config.{cpus_max}
@@ -66,7 +64,7 @@ result-change n = record { records = λ p. refl; slot = λ p. refl; id = λ p. r
 module _ (f : Payload → Payload) (g : Loaded → Loaded) (change : Change f g) where
   changed-at :
       {s : State} {l : Model} → StateStands s l → (i : ℕ) → i < length l.payloads →
-      StateStands (state.changed_at f s i) (model.changed_found g l (At i))
+      StateStands (state.changed_at f s i) (model.changed_found g l (Some i))
   changed-at {s} {l} k i h =
       let p : Loaded = get_or l.payloads i no_payload in
       let counted : i < s.count = omega (arith, k.count) in
@@ -88,9 +86,9 @@ module _ (f : Payload → Payload) (g : Loaded → Loaded) (change : Change f g)
 
   -- the memory stays as it was
   pub found-stands :
-      {u : Loader} {l : Model} → Stands u l → (x : Found) → ((i : ℕ) → x ≡ At i → i < length l.payloads) →
+      {u : Loader} {l : Model} → Stands u l → (x : Option ℕ) → ((i : ℕ) → x ≡ Some i → i < length l.payloads) →
       Stands (with_state (state.changed_found f u.state x) u) (model.changed_found g l x)
-  found-stands {u} {l} k (At i) counted =
+  found-stands {u} {l} k (Some i) counted =
       let p : Loaded = get_or l.payloads i no_payload in
       record {
         accepted = k.accepted;
@@ -101,14 +99,14 @@ module _ (f : Payload → Payload) (g : Loaded → Loaded) (change : Change f g)
         ids = k.ids ∙ sym (store-set id_max (λ q. padded id_max q.id) l.payloads i (g p) (change.slot p) (ap (padded id_max) (change.id p)));
         build_id = k.build_id;
       }
-  found-stands k Nothing counted = k
+  found-stands k None counted = k
 
   pub in-stands :
       {u : Loader} {l : Model} → Stands u l → (slot : ℕ) →
       Stands (with_state (state.changed_in f u.state slot) u) (model.changed_in g l slot)
   unfolding state.changed_in
   in-stands {u} {l} k slot =
-      subst (λ (x : Found). Stands (with_state (state.changed_found f u.state x) u) (model.changed_in g l slot)) (sym (with-slot k.state slot))
+      subst (λ (x : Option ℕ). Stands (with_state (state.changed_found f u.state x) u) (model.changed_in g l slot)) (sym (with-slot k.state slot))
       (found-stands k (model.with_slot l slot) (slot_counted k.state slot))
 
 pub job-stands :

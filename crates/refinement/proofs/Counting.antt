@@ -1,4 +1,5 @@
 -- Every element of a list, and how many payloads there are: 8 at most, fewer where a slot is free, and no fewer than are applied.
+use Rattle.std.proofs.Common.{Some, Option, ℕ}
 use Prim.Native.Nat.{ℕ, suc, ◌≤◌, ◌<◌}
 use mathlib.Core.Path.{◌≡◌, refl, sym, ap, ◌∙◌}
 use mathlib.Core.Bool.{Bool, true, false, cond, ◌||◌}
@@ -7,8 +8,6 @@ use lib.Dec.{eqb}
 use lib.ListN.{length, length-map}
 use Rattle.words.specs.Find.{where_from, first_where, every}
 use Rattle.words.specs.Name.{is_found}
-use Rattle.words.specs.declared.bytes.Found.{Found}
-use Rattle.words.specs.declared.bytes.Found.TheVariants.{At}
 use Rattle.memory.specs.Memory.{slot_count}
 use Rattle.model.specs.Model.{Start, Loaded}
 use Rattle.invariant.specs.Sound.{All, Absent, Apart, Different, SoundPayload}
@@ -43,7 +42,7 @@ module _ {A : Type 0} (test : A → Bool) where
   some [] = false
   some (x ∷ xs) = test x || some xs
 
-  found-if : (t : Bool) (i : ℕ) (f : Found) → is_found (cond t (At i) f) ≡ (t || is_found f)
+  found-if : (t : Bool) (i : ℕ) (f : Option ℕ) → is_found (cond t (Some i) f) ≡ (t || is_found f)
   found-if true i f = refl
   found-if false i f = refl
 

@@ -1,9 +1,9 @@
 -- The end of a job: what the state then keeps is what the model does, and arena and id store stay.
+use Rattle.std.proofs.Common.{Some, None, Option, ℕ}
 use Prim.Native.Nat.{ℕ, zero, suc, ◌+◌, ◌-◌, ◌≤◌, ◌<◌}
 use mathlib.Core.Path.{◌≡◌, refl, sym, ap, ap₂, subst, ◌∙◌}
 use mathlib.Core.Bool.{Bool, true, false, cond, ◌||◌}
 use mathlib.Core.List.{List, [], ◌∷◌, ◌++◌, map, reverse, reverse-append}
-use mathlib.Core.Option.{none}
 use native.Mathlib.Numerals.{add-one}
 use native.Mathlib.Omega.{arith}
 use borrow.Author.Tests.{eqb-true, eq-eqb, ne_eqb}
@@ -12,8 +12,6 @@ use lib.ListN.{length, get_or, set, take, drop, length-append, length-take, leng
 use lib.Seq.{take_at, take-suc, take-suc-set, take-set-lt, get_or-take}
 use Rattle.words.specs.Find.{where_from, first_where}
 use Rattle.words.specs.Name.{is_found}
-use Rattle.words.specs.declared.bytes.Found.{Found}
-use Rattle.words.specs.declared.bytes.Found.TheVariants.{At, Nothing}
 use Rattle.words.proofs.Find.{first-hit, where-map}
 use Rattle.words.proofs.Splice.{get_d_default}
 use Rattle.records.specs.Limits.{placed_max, id_max}
@@ -191,12 +189,12 @@ module _ {s : State} {l : Model} {j : Job} (k : StateStands s l) (job : JobStand
   new_status p = model.with_status (cond (model.is_applied new_stack p) 2 1) p
 
   -- the payload's place
-  place : (i : ℕ) × (model.with_slot l j.slot ≡ At i)
+  place : (i : ℕ) × (model.with_slot l j.slot ≡ Some i)
   place = by-found (model.with_slot l j.slot) refl good.loaded
     where
-      by-found : (f : Found) → model.with_slot l j.slot ≡ f → is_found f ≡ true → (i : ℕ) × (model.with_slot l j.slot ≡ At i)
-      by-found (At i) e h = (i, e)
-      by-found Nothing e h =
+      by-found : (f : Option ℕ) → model.with_slot l j.slot ≡ f → is_found f ≡ true → (i : ℕ) × (model.with_slot l j.slot ≡ Some i)
+      by-found (Some i) e h = (i, e)
+      by-found None e h =
           let never : ◌≡◌ {A = ℕ} 0 1 = cc in
           absurd (omega arith)
 
@@ -288,7 +286,7 @@ module _ {s : State} {l : Model} {j : Job} (k : StateStands s l) (job : JobStand
       ∙ with-slot k s.job.slot
       ∙ ap (model.with_slot l) job.slot
 
-  module _ (i : ℕ) (at : model.with_slot l j.slot ≡ At i) where
+  module _ (i : ℕ) (at : model.with_slot l j.slot ≡ Some i) where
     abbrev p : Loaded
     p = get_or l.payloads i no_payload
 
@@ -314,7 +312,7 @@ module _ {s : State} {l : Model} {j : Job} (k : StateStands s l) (job : JobStand
         ap (λ (x : State). with_job no_job (stepping.statuses_set x)) stack_set
         ∙ ap (λ (x : State). with_job no_job (state.changed_in (stepping.finished s.job.action) x s.job.slot)) (taken-down depth_now stack_now)
         ∙ ap
-        (λ (f : Found). with_job no_job (state.changed_found (stepping.finished s.job.action) (with_payloads (all-lowered replaces) (with_stack depth_now stack_now s)) f))
+        (λ (f : Option ℕ). with_job no_job (state.changed_found (stepping.finished s.job.action) (with_payloads (all-lowered replaces) (with_stack depth_now stack_now s)) f))
         (slot-lowered depth_now stack_now ∙ at)
 
     -- and the model
@@ -326,16 +324,16 @@ module _ {s : State} {l : Model} {j : Job} (k : StateStands s l) (job : JobStand
           payloads = model.with_statuses new_stack (set l.payloads i (model.with_result 0 p));
           stack = new_stack;
           laid = xs;
-          job = none;
+          job = None;
         }
 
     ended-model : (xs : List Laid) → model.ended (model.with_laid xs l) j ≡ model_now xs
     unfolding model.with_slot
     ended-model xs =
         ap
-        (λ (f : Found).
+        (λ (f : Option ℕ).
         let settled : Model = model.changed_found (model.with_result 0) (model.with_laid xs l) f in
-        model.with_job none (model.with_stack new_stack (model.with_payloads (model.with_statuses new_stack settled.payloads) settled)))
+        model.with_job None (model.with_stack new_stack (model.with_payloads (model.with_statuses new_stack settled.payloads) settled)))
         at
 
     inside : i < length l.payloads
@@ -412,7 +410,7 @@ pub ended-stands :
 ended-stands {u} {l} {j} k job sound good xs text undo is-text is-undo =
     let found = place k.state job sound good in
     let i : ℕ = found.0 in
-    let at : model.with_slot l j.slot ≡ At i = found.1 in
+    let at : model.with_slot l j.slot ≡ Some i = found.1 in
     subst (λ (m : Model). Stands (with_written (stepping.ended u.state) text undo u) m) (sym (ended-model k.state job sound good i at xs))
     (subst (λ (s : State). Stands (with_written s text undo u) (model_now k.state job sound good i at xs)) (sym (ended-state k.state job sound good i at))
     (record {

@@ -1,9 +1,9 @@
 -- A state that stands for a sound model is in its ranges, and its job has as many steps as the model's.
+use Rattle.std.proofs.Common.{Option, None, Some}
 use Prim.Native.Nat.{ℕ, ◌+◌, ◌-◌, ◌≤◌, ◌<◌}
 use mathlib.Core.Path.{◌≡◌, refl, sym, ap, ap₂, subst, ◌∙◌}
 use mathlib.Core.Bool.{Bool, true, false, cond, not, ◌&&◌, ◌||◌}
 use mathlib.Core.List.{List, [], ◌∷◌, reverse}
-use mathlib.Core.Option.{Option, none, some}
 use native.Mathlib.Omega.{arith}
 use borrow.Author.Tests.{le-leb, lt-ltb, eq-eqb, ne_eqb, eqb-true, eqb-false}
 use lib.Dec.{eqb, leb, ltb}
@@ -190,13 +190,13 @@ module _ {s : State} {l : Model} (k : StateStands s l) (sound : Sound l) where
   -- whether a job stands
   pub standing :
       (o : Option Job) → JobsStand l.start.cpus s.job o → SoundJobs l o → is_standing s.job ≡ model.is_standing o
-  standing none stands good = rw (eq-eqb s.job.action 0 stands)
-  standing (some j) stands good = rw (ne_eqb s.job.action 0 (λ e. omega (arith, stands.action, good.action_low)))
+  standing None stands good = rw (eq-eqb s.job.action 0 stands)
+  standing (Some j) stands good = rw (ne_eqb s.job.action 0 (λ e. omega (arith, stands.action, good.action_low)))
 
   job-in-range :
       (o : Option Job) → JobsStand l.start.cpus s.job o → SoundJobs l o → (not (is_standing s.job) || job_in_range s) ≡ true
-  job-in-range none stands good = rw (standing none stands good)
-  job-in-range (some j) stands good = rw (standing (some j) stands good) (job-fits stands good)
+  job-in-range None stands good = rw (standing None stands good)
+  job-in-range (Some j) stands good = rw (standing (Some j) stands good) (job-fits stands good)
 
   pub state-in-range : config_ok (config_of l.start) ≡ true → in_range s ≡ true
   unfolding in_range

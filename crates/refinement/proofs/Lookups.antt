@@ -1,4 +1,5 @@
 -- Where a state stands for a model: what is looked up in the one is what is looked up in the other.
+use Rattle.std.proofs.Common.{Some, None, Option, ℕ}
 use Prim.Native.Nat.{ℕ, zero, suc, ◌+◌, ◌-◌, ◌<◌}
 use mathlib.Core.Path.{◌≡◌, refl, sym, ap, ◌∙◌}
 use mathlib.Core.Bool.{Bool, true, false, cond}
@@ -12,8 +13,6 @@ use Rattle.words.specs.Name.{is_found}
 use Rattle.words.specs.Order.{equal}
 use Rattle.words.specs.Scan.{scan}
 use Rattle.words.specs.Splice.{splice}
-use Rattle.words.specs.declared.bytes.Found.{Found}
-use Rattle.words.specs.declared.bytes.Found.TheVariants.{At, Nothing}
 use Rattle.words.proofs.Find.{where-map, first-hit}
 use Rattle.words.proofs.Splice.{get_d_default}
 use Rattle.records.specs.Payload.{kept_name, no_id, named, empty}
@@ -46,13 +45,13 @@ none_kept = refl
 -- ---- a slot that an upload takes
 
 module _ (l : Model) where
-  abbrev free_from : ℕ → ℕ → Found
-  free_from i k = scan (λ slot rest. cond (is_found (model.with_slot l slot)) rest (At slot)) Nothing i k
+  abbrev free_from : ℕ → ℕ → Option ℕ
+  free_from i k = scan (λ slot rest. cond (is_found (model.with_slot l slot)) rest (Some slot)) None i k
 
   free-here :
       (i k e : ℕ) (t : Bool) → is_found (model.with_slot l i) ≡ t →
-      (free_from (suc i) k ≡ At e → (e < suc i + k) × (is_found (model.with_slot l e) ≡ false)) →
-      cond t (free_from (suc i) k) (At i) ≡ At e → (e < i + suc k) × (is_found (model.with_slot l e) ≡ false)
+      (free_from (suc i) k ≡ Some e → (e < suc i + k) × (is_found (model.with_slot l e) ≡ false)) →
+      cond t (free_from (suc i) k) (Some i) ≡ Some e → (e < i + suc k) × (is_found (model.with_slot l e) ≡ false)
   free-here i k e true taken later h =
       let f = later h in
       (omega (arith, f.0), f.1)
@@ -60,14 +59,14 @@ module _ (l : Model) where
       let same : i ≡ e = cc in
       (omega arith, rw same at taken)
 
-  free-from : (i k e : ℕ) → free_from i k ≡ At e → (e < i + k) × (is_found (model.with_slot l e) ≡ false)
+  free-from : (i k e : ℕ) → free_from i k ≡ Some e → (e < i + k) × (is_found (model.with_slot l e) ≡ false)
   unfolding scan
   free-from i zero e h =
       let never : ◌≡◌ {A = ℕ} 0 1 = cc in
       absurd (omega arith)
   free-from i (suc k) e h = free-here i k e (is_found (model.with_slot l i)) refl (free-from (suc i) k e) h
 
-  pub free-found : (e : ℕ) → model.free_slot l ≡ At e → (e < slot_count) × (is_found (model.with_slot l e) ≡ false)
+  pub free-found : (e : ℕ) → model.free_slot l ≡ Some e → (e < slot_count) × (is_found (model.with_slot l e) ≡ false)
   unfolding model.free_slot
   free-found e h = free-from 0 slot_count e h
 
@@ -97,17 +96,17 @@ module _ {s : State} {l : Model} (k : StateStands s l) where
       ∙ get_or-map record_of l.payloads i no_payload)
 
   -- what a search found is counted
-  pub slot_counted : (slot i : ℕ) → model.with_slot l slot ≡ At i → i < length l.payloads
+  pub slot_counted : (slot i : ℕ) → model.with_slot l slot ≡ Some i → i < length l.payloads
   unfolding model.with_slot
   slot_counted slot i h = (first-hit (λ (p : Loaded). eqb p.slot slot) l.payloads no_payload i h).0
 
-  pub name-counted : (name : List ℕ) (i : ℕ) → model.with_name l name ≡ At i → i < length l.payloads
+  pub name-counted : (name : List ℕ) (i : ℕ) → model.with_name l name ≡ Some i → i < length l.payloads
   unfolding model.with_name
   name-counted name i h = (first-hit (λ (p : Loaded). equal p.name name) l.payloads no_payload i h).0
 
-  pub payload-found : (f : Found) → ((i : ℕ) → f ≡ At i → i < length l.payloads) → state.payload_found s f ≡ record_of (model.payload_found l f)
-  payload-found (At i) h = payload-at i (h i refl)
-  payload-found Nothing h = none_kept
+  pub payload-found : (f : Option ℕ) → ((i : ℕ) → f ≡ Some i → i < length l.payloads) → state.payload_found s f ≡ record_of (model.payload_found l f)
+  payload-found (Some i) h = payload-at i (h i refl)
+  payload-found None h = none_kept
 
   pub payload-in : (slot : ℕ) → state.payload_in s slot ≡ record_of (model.payload_in l slot)
   unfolding state.payload_in
@@ -121,14 +120,14 @@ module _ {s : State} {l : Model} (k : StateStands s l) where
   lowest-free = simp with-slot
 
   -- the payloads are fewer than 8 where a slot is free
-  free-if : Sound l → (f : Found) → model.free_slot l ≡ f → cond (ltb s.count slot_count) f Nothing ≡ f
+  free-if : Sound l → (f : Option ℕ) → model.free_slot l ≡ f → cond (ltb s.count slot_count) f None ≡ f
   unfolding model.with_slot
-  free-if sound (At e) h =
+  free-if sound (Some e) h =
       let free = free-found l e h in
       let room = room-left l.start l.payloads sound.payloads sound.apart e free.0 free.1 in
       let short : s.count < slot_count = omega (arith, k.count) in
       rw (lt-ltb s.count slot_count short)
-  free-if sound Nothing h = cond_same (ltb s.count slot_count)
+  free-if sound None h = cond_same (ltb s.count slot_count)
 
   pub free-slot : Sound l → state.free_slot s ≡ model.free_slot l
   unfolding state.free_slot

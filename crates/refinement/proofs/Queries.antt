@@ -1,4 +1,6 @@
 -- Get, list and the top build-id give the model's replies.
+use Rattle.records.specs.Refusal.{Verdict}
+use Rattle.std.proofs.Common.{Ok, Err}
 use Prim.Native.Nat.{ℕ, zero, suc, ◌-◌, ◌≤◌, min}
 use mathlib.Core.Path.{◌≡◌, refl, sym, ap, ap₂, ◌∙◌}
 use mathlib.Core.Bool.{true}
@@ -14,20 +16,18 @@ use Rattle.records.specs.Verdict.{must, ◌then◌, decide}
 use Rattle.records.specs.declared.payload.Payload.{Payload}
 use Rattle.records.specs.declared.refusal.Place.TheVariants.{Nowhere}
 use Rattle.records.specs.declared.refusal.Refusal.{Refusal}
-use Rattle.records.specs.declared.refusal.Verdict.{Verdict}
-use Rattle.records.specs.declared.refusal.Verdict.TheVariants.{Pass, Refuse}
 use Rattle.memory.specs.Memory.{slot_count, ids_size}
 use Rattle.state.specs.Find as state
 use Rattle.state.specs.State.{result_word}
-use Rattle.queries.specs.Get.{get_rules, get_of, refused_get, got}
+use Rattle.queries.specs.Get.{get_rules, get_of, got}
 use Rattle.listing.specs.List as list
 use Rattle.queries.specs.TopId as top
-use Rattle.queries.specs.declared.get.Got.{Got}
-use Rattle.model.specs.Calls.{Reply, Tells, Lists, Buffers}
+use Rattle.model.specs.Calls.{Reply, Tells, Buffers}
 use Rattle.model.specs.Model.{Loaded, Model}
 use Rattle.model.specs.Step as model
 use Rattle.invariant.specs.Sound.{All, Sound}
 use Rattle.invariant.proofs.Facts.{taken-sound}
+use Rattle.refinement.specs.Replies.{tells_of, lists_of}
 use Rattle.refinement.specs.Stands.{Loader, record_of, Stands}
 use Rattle.refinement.proofs.InRange.{in-range}
 use Rattle.refinement.proofs.Lookups.{with-name, payload-named, payload-in, top-slot}
@@ -35,21 +35,16 @@ use Rattle.refinement.proofs.Stores.{length_ids, id-in}
 
 -- what is read of an answer, by the verdict that decides between two
 decide-read : {A B : Type 0} (read : A → B) (refused : Refusal → A) (accepted : A) (v : Verdict) → read (decide refused accepted v) ≡ decide (λ r. read (refused r)) (read accepted) v
-decide-read read refused accepted Pass = refl
-decide-read read refused accepted (Refuse r) = refl
-
-abbrev pub tells_of : Got → Reply
-tells_of g = Tells g.verdict g.status g.result
+decide-read read refused accepted (Ok _) = refl
+decide-read read refused accepted (Err r) = refl
 
 -- ---- entries
 
 abbrev pub lent : Buffers → list.Buffers
 lent b = list.buffers b.statuses b.names b.lengths
 
-abbrev pub lists_of : list.Listing → Reply
-lists_of x =
-    Lists x.answer.verdict x.answer.written x.answer.left x.answer.version
-    (record { statuses = x.after.statuses; names = x.after.names; lengths = x.after.lengths })
+abbrev pub listing_reply : list.Listing → Reply
+listing_reply x = lists_of (record { statuses = x.after.statuses; names = x.after.names; lengths = x.after.lengths }) x.answer
 
 take-map : {A B : Type 0} (f : A → B) (n : ℕ) (xs : List A) → take n (map f xs) ≡ map f (take n xs)
 take-map f zero xs = refl
@@ -96,8 +91,8 @@ module _ {u : Loader} {l : Model} (k : Stands u l) (sound : Sound l) where
   pub get-agrees : (name : List ℕ) → tells_of (get_of u.state name) ≡ model.get l name
   unfolding get_of model.get record_of
   get-agrees name =
-      decide-read tells_of refused_get (got (state.payload_found u.state (state.with_name u.state name))) (get_rules u.state name)
-      ∙ ap₂ (λ v p. decide (λ r. Tells (Refuse r) 0 0) (Tells Pass p.status (result_word p.result)) v) (get-rules name)
+      decide-read tells_of Err (Ok (got (state.payload_found u.state (state.with_name u.state name)))) (get_rules u.state name)
+      ∙ ap₂ (λ v p. decide (λ r. Tells (Err r) 0 0) (Tells (Ok tt) p.status (result_word p.result)) v) (get-rules name)
       (payload-named k.state name)
 
   list-rules :
@@ -109,10 +104,10 @@ module _ {u : Loader} {l : Model} (k : Stands u l) (sound : Sound l) where
   unfolding list.list_rules_for list.has_room model.has_room
   list-rules idx nr b = rw (in-range k sound, k.state.count)
 
-  pub list-agrees : (idx nr : ℕ) (b : Buffers) → lists_of (list.list_of u.state idx nr (lent b)) ≡ model.list_from l idx nr b
+  pub list-agrees : (idx nr : ℕ) (b : Buffers) → listing_reply (list.list_of u.state idx nr (lent b)) ≡ model.list_from l idx nr b
   unfolding list.list_of model.list_from
   list-agrees idx nr b =
-      decide-read lists_of (λ r. list.listing (list.refused_list r) (lent b)) _ (list.list_rules u.state idx nr (lent b))
+      decide-read listing_reply (λ r. list.listing (Err r) (lent b)) _ (list.list_rules u.state idx nr (lent b))
       ∙ rw (
         list-rules idx nr b,
         k.state.payloads,

@@ -1,9 +1,9 @@
 -- A report and a tick give the model's replies, and leave what stands for the model after them.
+use Rattle.std.proofs.Common.{Ok, Err, Option, None, Some}
 use Prim.Native.Nat.{ℕ, ◌-◌, ◌<◌}
 use mathlib.Core.Path.{◌≡◌, refl, sym, ap, subst, ◌∙◌}
 use mathlib.Core.Bool.{Bool, true, false, cond}
 use mathlib.Core.List.{List}
-use mathlib.Core.Option.{Option, none, some}
 use borrow.Author.Tests.{ltb-true}
 use lib.Dec.{ltb, eqb}
 use lib.ListN.{set, length-set, length-replicate}
@@ -11,7 +11,6 @@ use lib.Seq.{take-set-lt}
 use Rattle.words.specs.Find.{every}
 use Rattle.records.specs.Verdict.{must, decide}
 use Rattle.records.specs.declared.refusal.Place.TheVariants.{Nowhere}
-use Rattle.records.specs.declared.refusal.Verdict.TheVariants.{Pass, Refuse}
 use Rattle.records.proofs.Checks.{must-pass}
 use Rattle.memory.specs.Config.{cpus_max}
 use Rattle.state.specs.State as kept
@@ -52,21 +51,21 @@ module _ {u : Loader} {l : Model} (k : Stands u l) (sound : Sound l) where
   }
 
   abbrev reported : ℕ → Called
-  reported cpu = kept.called Pass (kept.with_job (rendezvous.with_held cpu u.state.job) u.state)
+  reported cpu = kept.called (Ok tt) (kept.with_job (rendezvous.with_held cpu u.state.job) u.state)
 
   report-with :
       (cpu : ℕ) (o : Option Job) → JobsStand l.start.cpus u.state.job o → SoundJobs l o →
       Agrees u (rendezvous.report_of u.state cpu) (model.report_with l o cpu)
   unfolding rendezvous.report_of rendezvous.report_rules
-  report-with cpu none stands good = rw (in-range k sound, standing k.state sound none stands good) (refl, k)
-  report-with cpu (some j) stands good =
-      rw (in-range k sound, standing k.state sound (some j) stands good)
+  report-with cpu None stands good = rw (in-range k sound, standing k.state sound None stands good) (refl, k)
+  report-with cpu (Some j) stands good =
+      rw (in-range k sound, standing k.state sound (Some j) stands good)
       (subst
-      (λ (n : ℕ). Agrees u (decide (λ r. kept.called (Refuse r) u.state) (reported cpu) (must (ltb cpu n) 22 Nowhere)) (model.report_with l (some j) cpu))
+      (λ (n : ℕ). Agrees u (decide (λ r. kept.called (Err r) u.state) (reported cpu) (must (ltb cpu n) 22 Nowhere)) (model.report_with l (Some j) cpu))
       (sym cpus)
       (decide-agrees (Agrees u) (must (ltb cpu l.start.cpus) 22 Nowhere) (λ r. (refl, k)) λ pass.
       let low : cpu < l.start.cpus = ltb-true cpu l.start.cpus (must-pass _ 22 Nowhere pass) in
-      (refl, job-stands k _ (some (model.with_held cpu j)) (held-stands j stands cpu low) (length-set u.state.job.held cpu true ∙ k.state.held_whole))))
+      (refl, job-stands k _ (Some (model.with_held cpu j)) (held-stands j stands cpu low) (length-set u.state.job.held cpu true ∙ k.state.held_whole))))
 
   pub report-agrees : (cpu : ℕ) → Agrees u (rendezvous.report_of u.state cpu) (model.step l (Report cpu))
   unfolding model.step
@@ -90,12 +89,12 @@ module _ {u : Loader} {l : Model} (k : Stands u l) (sound : Sound l) where
   time-out j stands =
       let changed = in-stands (kept.with_result 16) (model.with_result 16) (result-change 16) k u.state.job.slot in
       subst
-      (λ (slot : ℕ). Stands (with_state (rendezvous.timed_out u.state) u) (model.with_job none (model.changed_in (model.with_result 16) l slot)))
+      (λ (slot : ℕ). Stands (with_state (rendezvous.timed_out u.state) u) (model.with_job None (model.changed_in (model.with_result 16) l slot)))
       stands.slot
-      (job-stands changed kept.no_job none refl (length-replicate cpus_max false))
+      (job-stands changed kept.no_job None refl (length-replicate cpus_max false))
 
   abbrev left_by : Job → Bool → Bool → Model
-  left_by j full last = cond full l (cond last (model.timed_out l j) (model.with_job (some (model.with_time (j.time - 1) j)) l))
+  left_by j full last = cond full l (cond last (model.timed_out l j) (model.with_job (Some (model.with_time (j.time - 1) j)) l))
 
   ticked-by :
       (j : Job) → JobStands l.start.cpus u.state.job j → (full last : Bool) →
@@ -108,7 +107,7 @@ module _ {u : Loader} {l : Model} (k : Stands u l) (sound : Sound l) where
       (left_by j full last)
   ticked-by j stands true last = k
   ticked-by j stands false true = time-out j stands
-  ticked-by j stands false false = job-stands k _ (some (model.with_time (j.time - 1) j)) (time-stands j stands) k.state.held_whole
+  ticked-by j stands false false = job-stands k _ (Some (model.with_time (j.time - 1) j)) (time-stands j stands) k.state.held_whole
 
   ticked-stands :
       (j : Job) → JobStands l.start.cpus u.state.job j →
@@ -123,9 +122,9 @@ module _ {u : Loader} {l : Model} (k : Stands u l) (sound : Sound l) where
       (o : Option Job) → JobsStand l.start.cpus u.state.job o → SoundJobs l o →
       Agrees u (rendezvous.tick_of u.state) (model.tick_with l o)
   unfolding rendezvous.tick_of rendezvous.tick_rules
-  tick-with none stands good = rw (in-range k sound, standing k.state sound none stands good) (refl, k)
-  tick-with (some j) stands good =
-      rw (in-range k sound, standing k.state sound (some j) stands good) (refl, ticked-stands j stands)
+  tick-with None stands good = rw (in-range k sound, standing k.state sound None stands good) (refl, k)
+  tick-with (Some j) stands good =
+      rw (in-range k sound, standing k.state sound (Some j) stands good) (refl, ticked-stands j stands)
 
   pub tick-agrees : Agrees u (rendezvous.tick_of u.state) (model.step l Tick)
   unfolding model.step

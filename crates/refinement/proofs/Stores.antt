@@ -1,4 +1,5 @@
 -- Laws of `store_of`, once for every width: a store's length, the part of a slot, and the store after a payload is put last, taken out or changed.
+use Rattle.std.proofs.Common.{Some, None, Option, ℕ}
 use Prim.Native.Nat.{ℕ, zero, suc, ◌+◌, ◌*◌, ◌≤◌, ◌<◌}
 use mathlib.Core.Path.{◌≡◌, refl, sym, ap, ◌∙◌}
 use mathlib.Core.Bool.{Bool, true, false, cond}
@@ -12,8 +13,6 @@ use lib.Seq.{map-set_same, take-take}
 use Rattle.words.specs.Find.{where_from}
 use Rattle.words.specs.Name.{is_found}
 use Rattle.words.specs.Splice.{part, splice}
-use Rattle.words.specs.declared.bytes.Found.{Found}
-use Rattle.words.specs.declared.bytes.Found.TheVariants.{At, Nothing}
 use Rattle.words.proofs.Find.{first-hit}
 use Rattle.words.proofs.Splice.{length-splice, splice-splice, splice-splice-apart, part-splice-same, part-splice-before, part-splice-after}
 use Rattle.records.specs.Limits.{placed_max, id_max}
@@ -33,7 +32,7 @@ unfolding where_from
 absent-here slot p ps = by-test (eqb p.slot slot) refl
   where
     by-test :
-        (t : Bool) → eqb p.slot slot ≡ t → is_found (cond t (At 0) (where_from (λ q. eqb q.slot slot) 1 ps)) ≡ false →
+        (t : Bool) → eqb p.slot slot ≡ t → is_found (cond t (Some 0) (where_from (λ q. eqb q.slot slot) 1 ps)) ≡ false →
         (p.slot ≡ slot → ⊥) × Absent slot ps
     by-test true e h =
         let never : ◌≡◌ {A = ℕ} 0 1 = cc in
@@ -229,12 +228,12 @@ module _ {l : Model} (sound : Sound l) where
   id-in slot h = by_place (with_slot l slot) refl h
     where
       by_place :
-          (f : Found) → with_slot l slot ≡ f → is_found f ≡ true →
+          (f : Option ℕ) → with_slot l slot ≡ f → is_found f ≡ true →
           part (ids_of l) (id_at slot) (length (payload_found l f).id) ≡ (payload_found l f).id
-      by_place (At i) e g =
+      by_place (Some i) e g =
           let hit = first-hit (λ (p : Loaded). eqb p.slot slot) l.payloads no_payload i e in
           let same : (get_or l.payloads i no_payload).slot ≡ slot = eqb-true _ _ hit.1 in
           ap (λ (n : ℕ). part (ids_of l) (id_at n) (length (get_or l.payloads i no_payload).id)) (sym same) ∙ id-at i hit.0
-      by_place Nothing e g =
+      by_place None e g =
           let never : ◌≡◌ {A = ℕ} 0 1 = cc in
           absurd (omega arith)

@@ -1,9 +1,9 @@
 -- An unload: the list without a payload, and the memory with its slot and its store entries zeroed, stand for the model without it.
+use Rattle.std.proofs.Common.{Some, Ok, Option, None}
 use Prim.Native.Nat.{ℕ, zero, suc, ◌+◌, ◌-◌, ◌%◌, ◌^◌, ◌≤◌, ◌<◌, min}
 use mathlib.Core.Path.{◌≡◌, refl, sym, ap, ap₂, ◌∙◌}
 use mathlib.Core.Bool.{Bool, true, false, cond}
 use mathlib.Core.List.{List, [], ◌∷◌, ◌++◌, map}
-use mathlib.Core.Option.{Option, none, some}
 use native.Mathlib.Omega.{arith}
 use lib.Dec.{eqb}
 use lib.ListN.{length, get_or, take, drop, replicate, length-append, length-take, length-drop}
@@ -11,11 +11,9 @@ use lib.Seq.{take-append-le}
 use Rattle.words.specs.Name.{is_found}
 use Rattle.words.specs.Scan.{scan, each}
 use Rattle.words.specs.Splice.{splice}
-use Rattle.words.specs.declared.bytes.Found.TheVariants.{At}
 use Rattle.records.specs.Limits.{placed_max, id_max}
 use Rattle.records.specs.Payload.{empty}
 use Rattle.records.specs.declared.payload.Payload.{Payload}
-use Rattle.records.specs.declared.refusal.Verdict.TheVariants.{Pass}
 use Rattle.memory.specs.Memory.{slot_count, slot_at, undo_at, slot_undo_size, id_at}
 use Rattle.state.specs.Find as state
 use Rattle.actions.specs.Actions as actions
@@ -68,8 +66,8 @@ module _ (l : Model) (slot : ℕ) where
       (p : Loaded) → p.slot ≡ slot → (o : Option Job) → SoundJobs l o → All (λ x. is_found (model.with_slot l x) ≡ true) l.stack →
       All (λ x. eqb x slot ≡ false) l.stack → model.is_busy o 1 p ≡ false → All Other (expected l o)
   unfolding done_after
-  laid-other p e none job found h free = stack-other l.stack found h
-  laid-other p e (some j) job found h free =
+  laid-other p e None job found h free = stack-other l.stack found h
+  laid-other p e (Some j) job found h free =
       all_append Other (first_edits (model.payload_in l j.slot) _) _ (in-other j.slot _ job.loaded (rw e at free))
       (all_drop Other (min j.steps (model.removal_count l j)) (stack_edits l l.stack) (stack-other l.stack found h))
 
@@ -151,7 +149,7 @@ module _
       removed-first u.state.payloads i u.state.count empty inside fits
       ∙ rw k.state.payloads (map-removed record_of l.payloads i)
 
-  state-left : StateStands (actions.unloaded_at u.state (At i)) left
+  state-left : StateStands (actions.unloaded_at u.state (Some i)) left
   unfolding actions.removed_at
   state-left =
       record {
@@ -182,8 +180,8 @@ module _
   abbrev unloaded : actions.Acted
   unloaded =
       record {
-        answer = Pass;
-        state = actions.unloaded_at u.state (At i);
+        answer = Ok tt;
+        state = actions.unloaded_at u.state (Some i);
         after = actions.cleared (state.payload_at u.state i).slot (lent_by u);
       }
 

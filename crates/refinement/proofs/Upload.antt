@@ -1,4 +1,5 @@
 -- An upload gives the model's reply, and what it leaves stands for the model after it.
+use Rattle.std.proofs.Common.{Some, None, Option, ℕ, Ok}
 use Prim.Native.Nat.{ℕ, ◌+◌, ◌-◌, ◌%◌, ◌^◌, ◌≤◌, ◌<◌}
 use mathlib.Core.Path.{◌≡◌, refl, sym, ap, ap₂, subst⁻¹, ◌∙◌}
 use mathlib.Core.Bool.{true, not}
@@ -11,8 +12,6 @@ use lib.Seq.{take_at, take-suc-set}
 use Rattle.words.specs.Name.{is_found}
 use Rattle.words.specs.Scan.{each, filled}
 use Rattle.words.specs.Splice.{part, splice}
-use Rattle.words.specs.declared.bytes.Found.{Found}
-use Rattle.words.specs.declared.bytes.Found.TheVariants.{At, Nothing}
 use Rattle.words.proofs.Scan.{length-each}
 use Rattle.words.proofs.Splice.{length_part}
 use Rattle.records.specs.Limits.{placed_max, id_max, records_max}
@@ -22,7 +21,6 @@ use Rattle.records.specs.Verdict.{must}
 use Rattle.records.specs.declared.payload.BuildId.{BuildId}
 use Rattle.records.specs.declared.payload.Edit.{Edit}
 use Rattle.records.specs.declared.refusal.Place.TheVariants.{Nowhere}
-use Rattle.records.specs.declared.refusal.Verdict.TheVariants.{Pass}
 use Rattle.records.proofs.Checks.{must-pass, then-pass}
 use Rattle.symbols.specs.SymbolList.{valid}
 use Rattle.elf.specs.Layout.{note_head_size}
@@ -89,8 +87,8 @@ module _ {A : Type 0} (f : ℕ → A) (z : A) (m n : ℕ) where
 
 -- ---- what is read of a file that passes
 
-module _ (t : Setting) (file : List ℕ) (passes : payload_rules t file ≡ Pass) where
-  table-passes : table_rules file (sections file) (section_count file) ≡ Pass
+module _ (t : Setting) (file : List ℕ) (passes : payload_rules t file ≡ Ok tt) where
+  table-passes : table_rules file (sections file) (section_count file) ≡ Ok tt
   unfolding read_rules
   table-passes =
       let read = (then-pass (read_rules (machine_at t) file) (build_rules t file) passes).0 in
@@ -105,9 +103,9 @@ module _ (t : Setting) (file : List ℕ) (passes : payload_rules t file ≡ Pass
 
 -- ---- the payload that is put last
 
-slot-in : (f : Found) → slots.slot_in f ≡ model.slot_in f
-slot-in (At slot) = refl
-slot-in Nothing = refl
+slot-in : (f : Option ℕ) → slots.slot_in f ≡ model.slot_in f
+slot-in (Some slot) = refl
+slot-in None = refl
 
 module _ (l : Model) (name list file : List ℕ) where
   abbrev now : Setting
@@ -121,7 +119,7 @@ module _ (l : Model) (name list file : List ℕ) where
 
   -- the record that is kept of it
   record-new :
-      payload_rules now file ≡ Pass →
+      payload_rules now file ≡ Ok tt →
       record_of new ≡ entry.record_for name (model.slot_in (model.free_slot l)) (accepted_prepared now file)
   unfolding record_of model.loaded_from
   record-new passes =
@@ -174,8 +172,8 @@ module _ {u : Loader} {l : Model} (k : Stands u l) (sound : Sound l) (name list 
   -- what an accepted upload leaves
 
   module _
-      (named : is_name name ≡ true) (e : ℕ) (free : model.free_slot l ≡ At e)
-      (passes : payload_rules (now l name list file) file ≡ Pass) where
+      (named : is_name name ≡ true) (e : ℕ) (free : model.free_slot l ≡ Some e)
+      (passes : payload_rules (now l name list file) file ≡ Ok tt) where
     room : u.state.count < slot_count
     unfolding model.with_slot
     room =
@@ -238,7 +236,7 @@ module _ {u : Loader} {l : Model} (k : Stands u l) (sound : Sound l) (name list 
     abbrev done : ℕ → Setting → upload.Uploaded
     done slot t =
         record {
-          answer = Pass;
+          answer = Ok tt;
           state = entry.with_uploaded u.state (entry.record_for name slot (accepted_prepared t file));
           after =
               upload.lent (splice u.arena (slot_at slot) (relocated_of t file).image) (splice u.ids (id_at slot) (reading_for file).id.bytes);
@@ -248,9 +246,9 @@ module _ {u : Loader} {l : Model} (k : Stands u l) (sound : Sound l) (name list 
     unfolding upload.accepted_upload
     accepted-is = ap₂ done same-slot same-setting
 
-    accepted-agrees : UploadAgrees u (upload.accepted_upload u.state lent asked) (model.told after (Says Pass))
+    accepted-agrees : UploadAgrees u (upload.accepted_upload u.state lent asked) (model.told after (Says (Ok tt)))
     accepted-agrees =
-        subst⁻¹ (λ (x : upload.Uploaded). UploadAgrees u x (model.told after (Says Pass))) accepted-is (
+        subst⁻¹ (λ (x : upload.Uploaded). UploadAgrees u x (model.told after (Says (Ok tt)))) accepted-is (
           refl,
           record {
             accepted = k.accepted;
@@ -264,9 +262,9 @@ module _ {u : Loader} {l : Model} (k : Stands u l) (sound : Sound l) (name list 
         )
 
   -- what the rules tell of an upload that is accepted
-  slot-found : (f : Found) → model.free_slot l ≡ f → is_found f ≡ true → (e : ℕ) × (model.free_slot l ≡ At e)
-  slot-found (At e) h found = (e, h)
-  slot-found Nothing h found =
+  slot-found : (f : Option ℕ) → model.free_slot l ≡ f → is_found f ≡ true → (e : ℕ) × (model.free_slot l ≡ Some e)
+  slot-found (Some e) h found = (e, h)
+  slot-found None h found =
       let never : ◌≡◌ {A = ℕ} 0 1 = cc in
       absurd (omega arith)
 

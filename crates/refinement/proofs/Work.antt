@@ -1,9 +1,9 @@
 -- A work step gives the model's reply, and leaves what stands for the model after it.
+use Rattle.std.proofs.Common.{Option, None, Some}
 use Prim.Native.Nat.{ℕ, ◌+◌, ◌-◌}
 use mathlib.Core.Path.{◌≡◌, refl, sym, ap, ap₂, subst, ◌∙◌}
 use mathlib.Core.Bool.{Bool, true, false, cond}
 use mathlib.Core.List.{List, ◌∷◌}
-use mathlib.Core.Option.{Option, none, some}
 use borrow.Author.Tests.{eq-eqb, ltb-true, ltb-false}
 use lib.Dec.{eqb, ltb}
 use lib.ListN.{length, drop}
@@ -88,7 +88,7 @@ module _ {u : Loader} {l : Model} (k : Stands u l) (sound : Sound l) where
       let undo : length u.undo ≡ undo_size = ap length k.undo ∙ undo-length text₀ l.laid sound.fitting in
       rw (in-range k sound, eq-eqb _ _ text, eq-eqb _ _ undo)
 
-  module _ {j : Job} (is : l.job ≡ some j) (job : JobStands l.start.cpus u.state.job j) (good : SoundJob l j) where
+  module _ {j : Job} (is : l.job ≡ Some j) (job : JobStands l.start.cpus u.state.job j) (good : SoundJob l j) where
     -- ---- one edit
 
     abbrev laid_now : List Laid
@@ -122,7 +122,7 @@ module _ {u : Loader} {l : Model} (k : Stands u l) (sound : Sound l) where
     going_on :
         Stands
         (with_written (kept.with_job (stepping.with_steps (u.state.job.steps + 1) u.state.job) u.state) (text_with text₀ laid_now) (undo_with text₀ laid_now) u)
-        (model.with_job (some (model.with_steps (j.steps + 1) j)) (model.with_laid laid_now l))
+        (model.with_job (Some (model.with_steps (j.steps + 1) j)) (model.with_laid laid_now l))
     going_on = record {
       accepted = k.accepted;
       state = record {
@@ -166,9 +166,9 @@ module _ {u : Loader} {l : Model} (k : Stands u l) (sound : Sound l) where
       (o : Option Job) → l.job ≡ o → JobsStand l.start.cpus u.state.job o → SoundJobs l o →
       Agrees u (work.work_of u.state here) (model.work_with l o)
   unfolding work.work_of work.work_rules
-  work-with none is stands good = rw (sizes-ok, standing k.state sound none stands good) (refl, k)
-  work-with (some j) is stands good =
-      rw (sizes-ok, standing k.state sound (some j) stands good, complete k sound j stands)
+  work-with None is stands good = rw (sizes-ok, standing k.state sound None stands good) (refl, k)
+  work-with (Some j) is stands good =
+      rw (sizes-ok, standing k.state sound (Some j) stands good, complete k sound j stands)
       (decide-agrees (Agrees u) (must (model.is_complete j) 16 Nowhere) (λ r. (refl, k)) λ pass. (
         refl,
         subst (λ (left : work.Lent). Stands (with_written (stepping.worked u.state) left.text left.undo u) (model.worked l j))

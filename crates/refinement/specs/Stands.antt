@@ -1,6 +1,5 @@
 -- When the loader's state and the lent memory stand for the reference model.
-use Rattle.std.specs.Prelude.{ℕ, ◌-◌, ◌≡◌, true, List, map, reverse, ◌++◌, length, take, replicate}
-use Rattle.std.proofs.Math.Option.{Option, none, some}
+use Rattle.std.specs.Prelude.{ℕ, ◌-◌, ◌≡◌, true, List, map, reverse, ◌++◌, length, take, replicate, Option, None, Some}
 use Rattle.records.specs.Limits.{id_max, records_max}
 use Rattle.records.specs.Payload.{kept_name, no_edit}
 use Rattle.records.specs.declared.payload.Payload.{Payload}
@@ -60,8 +59,8 @@ pub record JobStands (cpus : ℕ) (kept : state.Job) (j : Job) : Type 0 where
 
 -- its action is 0 where there is none
 abbrev pub JobsStand : ℕ → state.Job → Option Job → Type 0
-JobsStand cpus kept none = kept.action ≡ 0
-JobsStand cpus kept (some j) = JobStands cpus kept j
+JobsStand cpus kept None = kept.action ≡ 0
+JobsStand cpus kept (Some j) = JobStands cpus kept j
 
 -- the state keeps what the model does
 pub record StateStands (s : State) (l : Model) : Type 0 where

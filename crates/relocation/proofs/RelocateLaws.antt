@@ -1,4 +1,6 @@
 -- Relocation over the slot's bytes: a turn and the end of each loop, and that the slot keeps its length.
+use Rattle.records.specs.Refusal.{Verdict}
+use Rattle.std.proofs.Common.{Some, None, Ok, Err}
 use Prim.Native.Nat.{ℕ, zero, suc, ◌+◌, ◌*◌, ◌-◌, ◌≤◌, ◌<◌}
 use mathlib.Core.Path.{◌≡◌, refl, sym, ◌∙◌}
 use mathlib.Core.Bool.{Bool, true, false, cond, not, ◌&&◌}
@@ -10,14 +12,10 @@ use Rattle.words.specs.Splice.{part}
 use Rattle.words.proofs.Splice.{length_part, length-splice}
 use Rattle.words.proofs.Tests.{both}
 use Rattle.records.specs.Limits.{placed_max, sections_max}
-use Rattle.records.specs.declared.refusal.Reason.{Reason}
-use Rattle.records.specs.declared.refusal.Verdict.{Verdict}
-use Rattle.records.specs.declared.refusal.Verdict.TheVariants.{Pass, Refuse}
 use Rattle.elf.specs.Layout.{relocation_size, relocation_of}
 use Rattle.elf.specs.declared.SectionHeader.{SectionHeader}
 use Rattle.machine.specs.Host.{rule_of, host_machine}
 use Rattle.machine.specs.Machine.{Machine}
-use Rattle.machine.specs.declared.fields.FieldType.{FieldType}
 use Rattle.machine.specs.declared.host.Host.{Host}
 use Rattle.machine.proofs.Laws.{length-field}
 use Rattle.kinds.specs.Kinds.{is_kind}
@@ -30,55 +28,20 @@ use Rattle.placement.specs.declared.Layout.{Layout}
 use Rattle.placement.proofs.PlacementLaws.{offset-kept}
 use Rattle.linking.specs.Kept.{Kept}
 use Rattle.linking.specs.Linking.{Linking}
+use Rattle.linking.specs.declared.kept.Cell.{Cell}
 use Rattle.reader.specs.Entries.{relocation_count}
-use Rattle.relocation.specs.Relocating.{
-  field_of,
-  Relocated,
-  relocated,
-  store_in,
-  FieldFits,
-  field_verdict,
-  go_on,
-  relocate_entry,
-  continue,
-  relocate_entries,
-  is_made_in,
-  is_relocating,
-  target_of,
-  area_of,
-  relocate_section,
-  relocate_from,
-  relocate_all,
-  linking_of,
-  Linkable,
-  Given,
-  AreaFits,
-}
+use Rattle.relocation.specs.Relocating.{Field, field_of, Relocated, relocated, store_in, FieldFits, go_on, relocate_entry, continue, relocate_entries, is_made_in, is_relocating, target_of, area_of, relocate_section, relocate_from, relocate_all, linking_of, Linkable, Given, AreaFits}
 use Rattle.relocation.specs.declared.fields.Area.{Area}
-use Rattle.relocation.specs.declared.fields.Field.{Field}
-use Rattle.relocation.specs.declared.fields.Field.TheVariants.{Store, Skip, Fault}
 use Rattle.relocation.proofs.FieldLaws.{field_fits}
 
 -- ---- one field
 
--- where the field is none that is stored
-pub nothing_stored : (image : List ℕ) (f : Field) → ((at : ℕ) (t : FieldType) (value : ℕ) → f ≡ Store at t value → ⊥) → store_in image f ≡ image
-nothing_stored image (Store at t value) h = absurd (h at t value refl)
-nothing_stored image Skip h = refl
-nothing_stored image (Fault reason) h = refl
-
--- where it is none that is refused
-pub no-fault : (f : Field) (i e : ℕ) → ((reason : Reason) → f ≡ Fault reason → ⊥) → field_verdict f i e ≡ Pass
-no-fault (Store at t value) i e h = refl
-no-fault Skip i e h = refl
-no-fault (Fault reason) i e h = absurd (h reason refl)
-
 length-stored : (image : List ℕ) (f : Field) → FieldFits f (length image) → length (store_in image f) ≡ length image
-length-stored image (Store at f value) h =
-    let new = length-field f (part image at (rule_of f).width) value (length_part image at (rule_of f).width h) in
-    length-splice image at _ (rw new h)
-length-stored image Skip h = refl
-length-stored image (Fault reason) h = refl
+length-stored image (Ok (Some s)) h =
+    let new = length-field s.field (part image s.at (rule_of s.field).width) s.value (length_part image s.at (rule_of s.field).width h) in
+    length-splice image s.at _ (rw new h)
+length-stored image (Ok None) h = refl
+length-stored image (Err reason) h = refl
 
 -- ---- the entries of one section
 
@@ -92,7 +55,7 @@ module _ (m : Machine) (l : Linking) (area : Area) (entries : List ℕ) (e n : �
       let left : n - e ≡ suc (n - (e + 1)) = omega arith in
       rw (left, add-one e)
 
-  pub entries-end : n ≤ e → relocate_entries m l area entries e (n - e) image ≡ relocated Pass image
+  pub entries-end : n ≤ e → relocate_entries m l area entries e (n - e) image ≡ relocated (Ok tt) image
   unfolding relocate_entries
   entries-end h =
       let none : n - e ≡ 0 = omega arith in
@@ -150,7 +113,7 @@ module _ (m : Machine) (l : Linking) (file : List ℕ) (i : ℕ) (image : List �
   unfolding relocate_section
   section-made test place contents gave = rw (test, ← place, ← contents) (sym gave)
 
-  pub section-passed : is_relocating l.sections (section_in l.sections i) ≡ false → relocate_section m l file i image ≡ relocated Pass image
+  pub section-passed : is_relocating l.sections (section_in l.sections i) ≡ false → relocate_section m l file i image ≡ relocated (Ok tt) image
   unfolding relocate_section
   section-passed test = rw test
 
@@ -163,7 +126,7 @@ module _ (m : Machine) (l : Linking) (file : List ℕ) (i n : ℕ) (image : List
       let left : n - i ≡ suc (n - (i + 1)) = omega arith in
       rw (left, add-one i)
 
-  pub sections-end : n ≤ i → relocate_from m l file i (n - i) image ≡ relocated Pass image
+  pub sections-end : n ≤ i → relocate_from m l file i (n - i) image ≡ relocated (Ok tt) image
   unfolding relocate_from
   sections-end h =
       let none : n - i ≡ 0 = omega arith in
@@ -173,7 +136,7 @@ module _ (m : Machine) (l : Linking) (file : List ℕ) (i n : ℕ) (image : List
 
 -- what a relocation is given of l it is given with other cells that stand for the same symbols
 pub still-given :
-    {l : Linking} {host : Host} {cells strings list : List ℕ} (after : List ℕ) → Given l host cells strings list → Kept l after →
+    {l : Linking} {host : Host} {cells : List Cell} {strings list : List ℕ} (after : List Cell) → Given l host cells strings list → Kept l after →
     Given l host after strings list
 still-given after g kept = record {
   address = g.address;
@@ -188,8 +151,8 @@ Whole image = length image ≡ placed_max
 whole-go-on :
     (v : Verdict) (image : List ℕ) (next : List ℕ → Relocated) → Whole image → ((other : List ℕ) → Whole other → Whole (next other).image) →
     Whole (go_on v image next).image
-whole-go-on Pass image next now after = after image now
-whole-go-on (Refuse r) image next now after = now
+whole-go-on (Ok _) image next now after = after image now
+whole-go-on (Err r) image next now after = now
 
 whole-continue :
     (r : Relocated) (next : List ℕ → Relocated) → Whole r.image → ((other : List ℕ) → Whole other → Whole (next other).image) →

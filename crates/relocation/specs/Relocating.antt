@@ -1,18 +1,15 @@
 -- Document 01: "Relocations are taken by section index, then entry"; each in the order type, field, symbol, range.
-use Rattle.std.specs.Prelude.{ℕ, zero, suc, ◌+◌, ◌*◌, ◌≤◌, ◌<◌, Bool, true, cond, not, ◌&&◌, ◌≡◌, List, leb, length}
+use Rattle.records.specs.declared.refusal.Reason.{Reason}
+use Rattle.std.specs.Prelude.{ℕ, zero, suc, ◌+◌, ◌*◌, ◌≤◌, ◌<◌, Bool, true, cond, not, ◌&&◌, ◌≡◌, List, leb, length, Option, Some, None, Result, Ok, Err}
 use Rattle.words.specs.Address.{wrapping_sum}
 use Rattle.records.specs.Limits.{file_max, placed_max, sections_max}
-use Rattle.records.specs.Refusal.{reason_for}
+use Rattle.records.specs.Refusal.{reason_for, Verdict}
 use Rattle.records.specs.Verdict.{refusal}
 use Rattle.records.specs.declared.refusal.Place.TheVariants.{Entry}
-use Rattle.records.specs.declared.refusal.Verdict.{Verdict}
-use Rattle.records.specs.declared.refusal.Verdict.TheVariants.{Pass, Refuse}
 use Rattle.elf.specs.Layout.{relocation_size, relocation_of}
 use Rattle.elf.specs.declared.Relocation as elf
 use Rattle.machine.specs.Host.{rule_of, with_field}
 use Rattle.machine.specs.Machine.{Machine}
-use Rattle.machine.specs.declared.fields.Checked.{Checked}
-use Rattle.machine.specs.declared.fields.Checked.TheVariants.{Right, Wrong}
 use Rattle.machine.specs.declared.fields.FieldType.{FieldType}
 use Rattle.machine.specs.declared.host.Host.{Host}
 use Rattle.machine.specs.declared.processor.RelocationType.{RelocationType}
@@ -25,13 +22,11 @@ use Rattle.payload.specs.declared.read.Reading.{Reading}
 use Rattle.placement.specs.Placement.{offset_of}
 use Rattle.linking.specs.Kept.{Sought}
 use Rattle.linking.specs.Linking.{Linking}
+use Rattle.linking.specs.declared.kept.Cell.{Cell}
 use Rattle.linking.specs.Symbols.{symbol_value}
-use Rattle.linking.specs.declared.values.SymbolValue.{SymbolValue}
-use Rattle.linking.specs.declared.values.SymbolValue.TheVariants.{Value, Refused}
 use Rattle.reader.specs.Entries.{relocation_count}
 use Rattle.relocation.specs.declared.fields.Area.{Area}
-use Rattle.relocation.specs.declared.fields.Field.{Field}
-use Rattle.relocation.specs.declared.fields.Field.TheVariants.{Store, Skip, Fault}
+use Rattle.relocation.specs.declared.fields.Store.{Store}
 
 -- ---- one relocation: r, in the area of the slot that its section's target takes
 
@@ -39,18 +34,22 @@ use Rattle.relocation.specs.declared.fields.Field.TheVariants.{Store, Skip, Faul
 abbrev pub field_address : Linking → Area → elf.Relocation → ℕ
 field_address l area r = wrapping_sum (wrapping_sum l.slot area.start) r.r_offset
 
--- what is stored, and where in the slot; or what is wrong with the value
-abbrev pub checked_field : FieldType → ℕ → ℕ → Checked → Field
-checked_field f at value Right = Store at f value
-checked_field f at value (Wrong reason) = Fault reason
+-- what is stored, and where in the slot; that nothing is; or why it is refused
+abbrev pub Field : Type 0
+Field = Result (Option Store) Reason
+
+-- a value that the field can take, or what is wrong with it
+abbrev pub checked_field : FieldType → ℕ → ℕ → Result (Unit {0}) Reason → Field
+checked_field f at value (Ok _) = Ok (Some (record { at = at; field = f; value = value }))
+checked_field f at value (Err reason) = Err reason
 
 abbrev pub stored_field : FieldType → ℕ → ℕ → Field
 stored_field f at value = checked_field f at value ((rule_of f).fault value)
 
-abbrev pub with_symbol : Linking → Area → elf.Relocation → FieldType → SymbolValue → Field
-with_symbol l area r f (Value s) =
+abbrev pub with_symbol : Linking → Area → elf.Relocation → FieldType → Result ℕ Reason → Field
+with_symbol l area r f (Ok s) =
     stored_field f (area.start + r.r_offset) ((rule_of f).value s r.r_addend (field_address l area r))
-with_symbol l area r f (Refused reason) = Fault reason
+with_symbol l area r f (Err reason) = Err reason
 
 -- "The stored field lies inside its section.": and stands where the machine lets it
 unfoldable pub field_ok : Linking → Area → elf.Relocation → FieldType → Bool
@@ -60,13 +59,13 @@ abbrev pub in_field : Linking → Area → elf.Relocation → FieldType → Fiel
 in_field l area r f =
     cond (field_ok l area r f)
     (with_symbol l area r f (symbol_value l r.r_symbol))
-    (Fault (reason_for 22))
+    (Err (reason_for 22))
 
 -- "0 does nothing and consults neither symbol nor field"; "Others: 95"
 abbrev pub by_type : Linking → Area → elf.Relocation → RelocationType → Field
-by_type l area r Nothing = Skip
+by_type l area r Nothing = Ok None
 by_type l area r (Stores f) = in_field l area r f
-by_type l area r Unknown = Fault (reason_for 95)
+by_type l area r Unknown = Err (reason_for 95)
 
 unfoldable pub field_of : Machine → Linking → Area → elf.Relocation → Field
 field_of m l area r = by_type l area r (m.relocation r.r_type)
@@ -81,26 +80,25 @@ abbrev pub relocated : Verdict → List ℕ → Relocated
 relocated v image = record { verdict = v; image = image }
 
 abbrev pub store_in : List ℕ → Field → List ℕ
-store_in image (Store at f value) = with_field f image at value
-store_in image Skip = image
-store_in image (Fault reason) = image
+store_in image (Ok (Some s)) = with_field s.field image s.at s.value
+store_in image (Ok None) = image
+store_in image (Err reason) = image
 
 -- the field lies in this many bytes
 abbrev pub FieldFits : Field → ℕ → Type 0
-FieldFits (Store at f value) size = at + (rule_of f).width ≤ size
-FieldFits Skip size = 0 ≤ size
-FieldFits (Fault reason) size = 0 ≤ size
+FieldFits (Ok (Some s)) size = s.at + (rule_of s.field).width ≤ size
+FieldFits (Ok None) size = 0 ≤ size
+FieldFits (Err reason) size = 0 ≤ size
 
 -- the verdict on entry e of relocation section i
 abbrev pub field_verdict : Field → ℕ → ℕ → Verdict
-field_verdict (Store at f value) i e = Pass
-field_verdict Skip i e = Pass
-field_verdict (Fault reason) i e = Refuse (refusal reason (Entry i e))
+field_verdict (Ok stored) i e = Ok tt
+field_verdict (Err reason) i e = Err (refusal reason (Entry i e))
 
 -- go on only where nothing was refused
 abbrev pub go_on : Verdict → List ℕ → (List ℕ → Relocated) → Relocated
-go_on Pass image next = next image
-go_on (Refuse r) image next = relocated (Refuse r) image
+go_on (Ok _) image next = next image
+go_on (Err r) image next = relocated (Err r) image
 
 -- entry e over these bytes
 abbrev pub relocate_entry : Machine → Linking → Area → List ℕ → ℕ → List ℕ → Relocated
@@ -114,7 +112,7 @@ continue r next = go_on r.verdict r.image next
 
 -- k entries from entry e on
 unfoldable pub relocate_entries : Machine → Linking → Area → List ℕ → ℕ → ℕ → List ℕ → Relocated
-relocate_entries m l area entries e zero image = relocated Pass image
+relocate_entries m l area entries e zero image = relocated (Ok tt) image
 relocate_entries m l area entries e (suc k) image =
     continue (relocate_entry m l area entries e image) (relocate_entries m l area entries (suc e) k)
 
@@ -141,11 +139,11 @@ relocate_section m l file i image =
     let s = section_in l.sections i in
     cond (is_relocating l.sections s)
     (relocate_entries m l (area_of l.sections i) (contents_of file s.header) 0 (relocation_count (contents_of file s.header)) image)
-    (relocated Pass image)
+    (relocated (Ok tt) image)
 
 -- k sections from section i on
 unfoldable pub relocate_from : Machine → Linking → List ℕ → ℕ → ℕ → List ℕ → Relocated
-relocate_from m l file i zero image = relocated Pass image
+relocate_from m l file i zero image = relocated (Ok tt) image
 relocate_from m l file i (suc k) image = continue (relocate_section m l file i image) (relocate_from m l file (suc i) k)
 
 -- all relocations of a payload
@@ -182,7 +180,7 @@ pub record Linkable (size : ℕ) (file : List ℕ) (g : Reading) : Type 0 where
       (area_of g.sections i).start + (area_of g.sections i).size ≤ placed_max
 
 -- all that a relocation is given of l: the slot's address, the symbols, and where their names are looked up
-pub record Given (l : Linking) (host : Host) (cells strings list : List ℕ) : Type 0 where
+pub record Given (l : Linking) (host : Host) (cells : List Cell) (strings list : List ℕ) : Type 0 where
   pub address : l.slot ≡ host.slot
   pub sought : Sought l cells strings list
 

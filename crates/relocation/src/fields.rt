@@ -6,9 +6,8 @@ ghost use Rattle.linking.specs.Linking.{Linking};
 ghost use Rattle.relocation.specs.Relocating.{stored_field, field_of, AreaFits, Given};
 
 use elf::Relocation;
-use linking::kept;
-use linking::values::SymbolValue;
-use machine::fields::{Checked, FieldType};
+use linking::kept::{self, Cell};
+use machine::fields::FieldType;
 use machine::host::Host;
 use machine::processor::RelocationType;
 use records::refusal::Reason;
@@ -21,33 +20,35 @@ pub struct Area {
     pub size: u64,
 }
 
-// A field of the slot: its offset, its type and the value; nothing to store; or why it is refused.
+// What is stored in a field of the slot: at this offset, of this type, this value.
 #[derive(Clone, Copy)]
-pub enum Field {
-    Store(u64, FieldType, u64),
-    Skip,
-    Fault(Reason),
+pub struct Store {
+    pub at: u64,
+    pub field: FieldType,
+    pub value: u64,
 }
 
 // The field at `at` of the slot with a value that is known, where it can take it.
-fn stored_field(f: FieldType, at: u64, value: u64) -> Field
+fn stored_field(f: FieldType, at: u64, value: u64) -> Result<Option<Store>, Reason>
     ensures { result ≡ stored_field f at value }
 {
-    match f.check(value) {
-        Checked::Right => Field::Store(at, f, value),
-        Checked::Wrong(reason) => Field::Fault(reason),
-    }
+    f.check(value)?;
+    Ok(Some(Store {
+        at,
+        field: f,
+        value,
+    }))
 }
 
-// One relocation: type, field, symbol, range.
+// What one relocation stores, if anything: type, field, symbol, range.
 pub fn field_of(
-    cells: &mut [u64],
+    cells: &mut [Cell],
     strings: &[u8],
     list: &[u8],
     host: Host,
     area: Area,
     r: Relocation,
-) -> Field
+) -> Result<Option<Store>, Reason>
     requires { AreaFits area × ((l : Linking) × Given l host cells.old strings.now list.now) }
     ensures { (l : Linking) → Given l host cells.old strings.now list.now →
         (result ≡ field_of (host_machine host) l area r) × Kept l cells.new }
@@ -55,21 +56,17 @@ pub fn field_of(
     let processor = host.processor;
     let asked = processor.relocation_type(r.r_type);
     let f = match asked {
-        RelocationType::Nothing => return Field::Skip,
-        RelocationType::Unknown => return Field::Fault(Reason::Unsupported),
+        RelocationType::Nothing => return Ok(None),
+        RelocationType::Unknown => return Err(Reason::Unsupported),
         RelocationType::Stores(f) => f,
     };
     if !words::address::lies_within(r.r_offset, f.width(), area.size) {
-        return Field::Fault(Reason::Invalid);
+        return Err(Reason::Invalid);
     }
     let place = words::address::add(words::address::add(host.slot, area.start), r.r_offset);
     if !f.is_aligned(place) {
-        return Field::Fault(Reason::Invalid);
+        return Err(Reason::Invalid);
     }
-    match kept::value_of(cells, strings, list, r.r_symbol) {
-        SymbolValue::Refused(reason) => Field::Fault(reason),
-        SymbolValue::Value(s) => {
-            stored_field(f, area.start + r.r_offset, f.value(s, r.r_addend, place))
-        }
-    }
+    let s = kept::value_of(cells, strings, list, r.r_symbol)?;
+    stored_field(f, area.start + r.r_offset, f.value(s, r.r_addend, place))
 }

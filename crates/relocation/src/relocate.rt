@@ -1,5 +1,5 @@
 // All relocations of a payload, by section index and then entry, over the slot's bytes.
-ghost use Rattle.std.specs.Prelude.{◌≡◌, ◌≤◌, length};
+ghost use Rattle.std.specs.Prelude.{◌≡◌, ◌≤◌, length, Ok};
 ghost use Rattle.records.specs.Limits.{placed_max, file_max};
 ghost use Rattle.machine.specs.Host.{host_machine};
 ghost use Rattle.placement.specs.Placement.{layout_of};
@@ -20,36 +20,36 @@ ghost use Rattle.relocation.specs.Relocating.{
   relocate_all,
 };
 
-use super::fields::{self, Area, Field};
+use super::fields::{self, Area, Store};
 use kinds::Kind;
 use linking::kept::{self, Cell};
 use machine::host::Host;
 use object::sections::{self, SectionEntry};
 use payload::read::Reading;
 use placement::Layout;
-use reader::cursor::{Cursor, Next};
-use records::refusal::{Place, Verdict};
+use reader::cursor::Cursor;
+use records::refusal::{self, Place, Refusal};
 
-// A field stored into the slot's bytes.
-fn store_field(image: &mut [u8], f: Field)
-    requires { FieldFits f (length image.old) }
-    ensures { image.new ≡ store_in image.old f }
+// What is to be stored, if anything, over the slot's bytes.
+fn store_field(image: &mut [u8], stored: Option<Store>)
+    requires { FieldFits (Ok stored) (length image.old) }
+    ensures { image.new ≡ store_in image.old (Ok stored) }
 {
-    if let Field::Store(at, t, value) = f {
-        t.store(image, at as usize, value);
+    if let Some(s) = stored {
+        s.field.store(image, s.at as usize, s.value);
     }
 }
 
 // The entries of a relocation section, in order.
 fn relocate_entries(
     image: &mut [u8],
-    cells: &mut [u64],
+    cells: &mut [Cell],
     entries: &[u8],
     strings: &[u8],
     list: &[u8],
     host: Host,
     area: Area,
-) -> Verdict
+) -> Result<(), Refusal>
     requires image_len { (length image.old ≡ placed_max) × AreaFits area × (length entries.now ≤ file_max) }
     requires given { (l : Linking) × Given l host cells.old strings.now list.now }
     ensures { (l : Linking) → Given l host cells.old strings.now list.now →
@@ -59,15 +59,16 @@ fn relocate_entries(
     let mut cursor = Cursor::start();
     loop {
         let e = cursor.entry;
-        let Next::Entry(r, next) = reader::next_entry(entries, e) else {
-            return Verdict::Pass;
+        let Some((r, next)) = reader::next_entry(entries, e) else {
+            return Ok(());
         };
-        let f = fields::field_of(cells, strings, list, host, area, r);
-        if let Field::Fault(reason) = f {
-            let number = e as u16;
-            return Verdict::refused(reason, Place::Entry(area.section, number));
+        match fields::field_of(cells, strings, list, host, area, r) {
+            Ok(stored) => store_field(image, stored),
+            Err(reason) => {
+                let number = e as u16;
+                return refusal::refused(reason, Place::Entry(area.section, number));
+            }
         }
-        store_field(image, f);
         cursor = next;
     }
 }
@@ -76,27 +77,17 @@ fn relocate_entries(
 fn target_of(s: SectionEntry) -> usize
     ensures { result ≡ target_of s }
 {
-    let kind = s.kind;
-    let Kind::Relocations = kind else {
+    if s.kind != Kind::Relocations {
         return 0;
-    };
-    let h = s.header;
-    h.sh_info as usize
+    }
+    s.header.sh_info as usize
 }
 
 // Whether the section's relocations are made in `target`: those of an ignored target are ignored too.
 fn is_relocating(s: SectionEntry, target: SectionEntry) -> bool
     ensures { result ≡ is_made_in s target }
 {
-    let kind = s.kind;
-    let Kind::Relocations = kind else {
-        return false;
-    };
-    let target_kind = target.kind;
-    if let Kind::Ignored = target_kind {
-        return false;
-    }
-    true
+    s.kind == Kind::Relocations && target.kind != Kind::Ignored
 }
 
 // All relocations, by section index, up to the first that is refused.
@@ -107,7 +98,7 @@ pub fn relocate(
     host: Host,
     reading: Reading,
     layout: Layout,
-) -> Verdict
+) -> Result<(), Refusal>
     requires { Linkable (length image.old) file.now reading ×
         (layout ≡ layout_of reading.sections reading.count) }
     ensures { relocated result image.new ≡ relocate_all (host_machine host)
@@ -120,15 +111,14 @@ pub fn relocate(
     let link = symbol_header.sh_link as usize;
     let string_entry = reading.sections[link];
     let strings = sections::contents_of(file, string_entry.header);
-    let mut cells = [0u64; Cell::COUNT];
+    let mut cells = [Cell::Known(0); Cell::SYMBOLS_MAX];
     kept::read_symbols(
         &mut cells,
         host.slot,
         layout,
         sections::contents_of(file, symbol_header),
     );
-    let mut i = 0;
-    while i < count {
+    for i in 0..count {
         let one = reading.sections[i];
         let target = target_of(one);
         let made_in = reading.sections[target];
@@ -143,11 +133,10 @@ pub fn relocate(
             };
             let entries = sections::contents_of(file, one.header);
             let v = relocate_entries(image, &mut cells, entries, strings, list, host, area);
-            if let Verdict::Refuse(_) = v {
+            if let Err(_) = v {
                 return v;
             }
         }
-        i += 1;
     }
-    Verdict::Pass
+    Ok(())
 }

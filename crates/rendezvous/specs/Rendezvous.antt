@@ -1,10 +1,9 @@
 -- Document 01's holds: a job gathers the CPUs. Here a hold is called a rendezvous, complete once all CPUs are held.
-use Rattle.std.specs.Prelude.{ℕ, ◌-◌, Bool, true, cond, ltb, eqb, take, set}
+use Rattle.records.specs.Refusal.{Verdict}
+use Rattle.std.specs.Prelude.{ℕ, ◌-◌, Bool, true, cond, ltb, eqb, take, set, Ok, Err}
 use Rattle.words.specs.Find.{every}
 use Rattle.records.specs.Verdict.{must, ◌then◌, decide}
 use Rattle.records.specs.declared.refusal.Place.TheVariants.{Nowhere}
-use Rattle.records.specs.declared.refusal.Verdict.{Verdict}
-use Rattle.records.specs.declared.refusal.Verdict.TheVariants.{Pass, Refuse}
 use Rattle.state.specs.Change.{changed_in}
 use Rattle.state.specs.State.{called, no_job, is_standing, with_result, with_job}
 use Rattle.state.specs.declared.state.Called.{Called}
@@ -30,7 +29,7 @@ with_held cpu j = record { action = j.action; slot = j.slot; held = set j.held c
 
 -- "A report marks one CPU (0 to count - 1) held (again: no change)."
 unfoldable pub report_of : State → ℕ → Called
-report_of s cpu = decide (λ r. called (Refuse r) s) (called Pass (with_job (with_held cpu s.job) s)) (report_rules s cpu)
+report_of s cpu = decide (λ r. called (Err r) s) (called (Ok tt) (with_job (with_held cpu s.job) s)) (report_rules s cpu)
 
 -- ---- a tick
 
@@ -52,4 +51,4 @@ ticked s =
     (with_job (with_time (s.job.time - 1) s.job) s))
 
 unfoldable pub tick_of : State → Called
-tick_of s = decide (λ r. called (Refuse r) s) (called Pass (ticked s)) (tick_rules s)
+tick_of s = decide (λ r. called (Err r) s) (called (Ok tt) (ticked s)) (tick_rules s)

@@ -7,7 +7,7 @@ ghost use Rattle.memory.specs.Config.{cpus_max};
 ghost use Rattle.ranges.specs.Ranges.{in_range};
 ghost use Rattle.rendezvous.specs.Rendezvous.{is_complete, report_of, timed_out, tick_of};
 
-use records::refusal::{Reason, Verdict};
+use records::refusal::Reason;
 use state::change;
 use state::state::{Called, Job, State};
 
@@ -16,12 +16,10 @@ pub fn all_held(job: Job, count: usize) -> bool
     requires { count ≤ cpus_max }
     ensures { result ≡ every (λ held. held) (take count job.held) }
 {
-    let mut i = 0;
-    while i < count {
-        if !job.held[i] {
+    for held in &job.held[..count] {
+        if !*held {
             return false;
         }
-        i += 1;
     }
     true
 }
@@ -55,7 +53,7 @@ pub fn report(state: State, cpu: u32) -> Called
     let mut next = state;
     next.job = job;
     Called {
-        verdict: Verdict::Pass,
+        verdict: Ok(()),
         state: next,
     }
 }
@@ -84,14 +82,14 @@ pub fn tick(state: State) -> Called
     }
     if is_complete(state) {
         return Called {
-            verdict: Verdict::Pass,
+            verdict: Ok(()),
             state,
         };
     }
     if job.time == 1 {
         let ended = time_out(state);
         return Called {
-            verdict: Verdict::Pass,
+            verdict: Ok(()),
             state: ended,
         };
     }
@@ -99,7 +97,7 @@ pub fn tick(state: State) -> Called
     let mut next = state;
     next.job = job;
     Called {
-        verdict: Verdict::Pass,
+        verdict: Ok(()),
         state: next,
     }
 }

@@ -1,4 +1,6 @@
 -- Report and tick made in the bytes of a state: what each test of them decides.
+use Rattle.records.specs.Refusal.{Verdict}
+use Rattle.std.proofs.Common.{Ok, Err}
 use Prim.Native.Nat.{ℕ, ◌-◌, ◌≤◌, ◌<◌}
 use mathlib.Core.Path.{◌≡◌, subst}
 use mathlib.Core.Bool.{true, false}
@@ -7,8 +9,6 @@ use borrow.Author.Tests.{eq-eqb, ne_eqb, lt-ltb, le-ltb}
 use Rattle.records.specs.Verdict.{refusal}
 use Rattle.records.specs.declared.refusal.Place.TheVariants.{Nowhere}
 use Rattle.records.specs.declared.refusal.Reason.TheVariants.{Invalid}
-use Rattle.records.specs.declared.refusal.Verdict.{Verdict}
-use Rattle.records.specs.declared.refusal.Verdict.TheVariants.{Pass, Refuse}
 use Rattle.state.specs.State.{called, with_job}
 use Rattle.state.specs.declared.state.Called.{Called}
 use Rattle.state.specs.declared.state.State.{State}
@@ -23,7 +23,7 @@ pub made :
 made {call} {answer} {v} {s} {after} e a h = subst (λ (x : Called). (answer ≡ x.verdict) × HoldsState x.state after) e (a, h)
 
 abbrev pub refused : Verdict
-refused = Refuse (refusal Invalid Nowhere)
+refused = Err (refusal Invalid Nowhere)
 
 module _ (s : State) where
   module _ (cpu : ℕ) where
@@ -40,7 +40,7 @@ module _ (s : State) where
     report-past h n l = simp (h, ne_eqb _ _ n, le-ltb _ _ l)
 
     pub report-held :
-        in_range s ≡ true → (s.job.action ≡ 0 → ⊥) → cpu < s.config.cpus → called Pass (with_job (with_held cpu s.job) s) ≡ report_of s cpu
+        in_range s ≡ true → (s.job.action ≡ 0 → ⊥) → cpu < s.config.cpus → called (Ok tt) (with_job (with_held cpu s.job) s) ≡ report_of s cpu
     unfolding report_of report_rules
     report-held h n l = simp (h, ne_eqb _ _ n, lt-ltb _ _ l)
 
@@ -53,14 +53,14 @@ module _ (s : State) where
   tick-idle h e = simp (h, eq-eqb _ _ e)
 
   module _ (h : in_range s ≡ true) (n : s.job.action ≡ 0 → ⊥) where
-    pub tick-complete : is_complete s ≡ true → called Pass s ≡ tick_of s
+    pub tick-complete : is_complete s ≡ true → called (Ok tt) s ≡ tick_of s
     unfolding tick_of tick_rules ticked
     tick-complete e = simp (h, ne_eqb _ _ n, e)
 
-    pub tick-last : is_complete s ≡ false → s.job.time ≡ 1 → called Pass (timed_out s) ≡ tick_of s
+    pub tick-last : is_complete s ≡ false → s.job.time ≡ 1 → called (Ok tt) (timed_out s) ≡ tick_of s
     unfolding tick_of tick_rules ticked
     tick-last e t = simp (h, ne_eqb _ _ n, e, eq-eqb _ _ t)
 
-    pub tick-more : is_complete s ≡ false → (s.job.time ≡ 1 → ⊥) → called Pass (with_job (with_time (s.job.time - 1) s.job) s) ≡ tick_of s
+    pub tick-more : is_complete s ≡ false → (s.job.time ≡ 1 → ⊥) → called (Ok tt) (with_job (with_time (s.job.time - 1) s.job) s) ≡ tick_of s
     unfolding tick_of tick_rules ticked
     tick-more e t = simp (h, ne_eqb _ _ n, e, ne_eqb _ _ t)

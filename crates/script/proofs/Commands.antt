@@ -1,4 +1,5 @@
 -- What was read says: a number is at most what was asked, a command's hex is hex, and a start-up's text is not too large.
+use Rattle.std.proofs.Common.{Some, None, Option, ℕ}
 use Prim.Native.Nat.{ℕ, ◌≤◌}
 use mathlib.Core.Path.{◌≡◌, refl, ap}
 use mathlib.Core.Bool.{Bool, true, false, cond, ◌&&◌}
@@ -6,6 +7,7 @@ use mathlib.Core.List.{List}
 use native.Mathlib.Omega.{arith}
 use borrow.Author.Tests.{leb-true}
 use lib.Dec.{leb}
+use Rattle.std.specs.Bool.{then_some}
 use Rattle.words.specs.Find.{every}
 use Rattle.words.specs.Text.{ascii}
 use Rattle.words.proofs.Tests.{both, three}
@@ -14,7 +16,6 @@ use Rattle.script.specs.Command.{
   base_most,
   size_most,
   with_number,
-  provided,
   start_in,
   upload_in,
   get_in,
@@ -35,26 +36,23 @@ use Rattle.script.specs.declared.command.Command.TheVariants.{
   Report,
   Tick,
   Work,
-  Unreadable as NoCommand,
 }
-use Rattle.script.specs.declared.decimal.Number.{Number}
-use Rattle.script.specs.declared.decimal.Number.TheVariants.{Is, Unreadable}
 
 -- how many numbers were read
-abbrev reads : Number → ℕ
-reads (Is n) = 1
-reads Unreadable = 0
+abbrev reads : Option ℕ → ℕ
+reads (Some n) = 1
+reads None = 0
 
-most-if : (most : ℕ) (t : Bool) (v n : ℕ) → (t ≡ true → v ≤ most) → cond t (Is v) Unreadable ≡ Is n → n ≤ most
+most-if : (most : ℕ) (t : Bool) (v n : ℕ) → (t ≡ true → v ≤ most) → cond t (Some v) None ≡ Some n → n ≤ most
 most-if most true v n small h =
     let same : v ≡ n = cc in
     omega (arith, small refl)
 most-if most false v n small h =
-    let none : reads Unreadable ≡ reads (Is n) = ap reads h in
+    let none : reads None ≡ reads (Some n) = ap reads h in
     absurd (omega arith)
 
 -- it is at most what was asked
-pub number-most : (most : ℕ) (s : List ℕ) (n : ℕ) → number_of most s ≡ Is n → n ≤ most
+pub number-most : (most : ℕ) (s : List ℕ) (n : ℕ) → number_of most s ≡ Some n → n ≤ most
 unfolding number_of
 number-most most s n =
     most-if most (is_plain s && every is_digit s && leb (value s) most) (value s) n
@@ -62,25 +60,25 @@ number-most most s n =
 
 -- ---- what was checked of a command
 
-abbrev pub Checked : List ℕ → Command → Type 0
-Checked line (Start h) = (is_hex (field_of line 5) ≡ true) × (h.size ≤ size_most)
-Checked line Upload = is_hex (field_of line 2) ≡ true
-Checked line Get = Unit
-Checked line Listing = Unit
-Checked line (Act q) = Unit
-Checked line (Report cpu) = Unit
-Checked line Tick = Unit
-Checked line Work = Unit
-Checked line NoCommand = Unit
+abbrev pub Checked : List ℕ → Option Command → Type 0
+Checked line (Some (Start h)) = (is_hex (field_of line 5) ≡ true) × (h.size ≤ size_most)
+Checked line (Some Upload) = is_hex (field_of line 2) ≡ true
+Checked line (Some Get) = Unit
+Checked line (Some Listing) = Unit
+Checked line (Some (Act q)) = Unit
+Checked line (Some (Report cpu)) = Unit
+Checked line (Some Tick) = Unit
+Checked line (Some Work) = Unit
+Checked line None = Unit
 
 module _ (line : List ℕ) where
-  either : (t : Bool) (a b : Command) → Checked line a → Checked line b → Checked line (cond t a b)
+  either : (t : Bool) (a b : Option Command) → Checked line a → Checked line b → Checked line (cond t a b)
   either true a b h g = h
   either false a b h g = g
 
-  if-provided : (t : Bool) (c : Command) → (t ≡ true → Checked line c) → Checked line (provided t c)
-  if-provided true c h = h refl
-  if-provided false c h = tt
+  if-then_some : (t : Bool) (c : Command) → (t ≡ true → Checked line (Some c)) → Checked line (then_some t c)
+  if-then_some true c h = h refl
+  if-then_some false c h = tt
 
   start-checked : Checked line (start_in line)
   unfolding start_in
@@ -89,46 +87,46 @@ module _ (line : List ℕ) where
       (number_of number_most (field_of line 4)) (is_hex (field_of line 5)) (number-most size_most (field_of line 2)) (λ h. h)
     where
       cases :
-          (n1 n2 n3 n4 : Number) (t : Bool) → ((size : ℕ) → n2 ≡ Is size → size ≤ size_most) → (t ≡ true → is_hex (field_of line 5) ≡ true) →
+          (n1 n2 n3 n4 : Option ℕ) (t : Bool) → ((size : ℕ) → n2 ≡ Some size → size ≤ size_most) → (t ≡ true → is_hex (field_of line 5) ≡ true) →
           Checked line
           (with_number n1 (λ base.
           with_number n2 (λ size.
           with_number n3 (λ arena.
-          with_number n4 (λ cpus. provided t (Start (record { base = base; size = size; arena = arena; cpus = cpus })))))))
-      cases (Is base) (Is size) (Is arena) (Is cpus) true small h = (h refl, small size refl)
-      cases (Is base) (Is size) (Is arena) (Is cpus) false small h = tt
-      cases (Is base) (Is size) (Is arena) Unreadable t small h = tt
-      cases (Is base) (Is size) Unreadable n4 t small h = tt
-      cases (Is base) Unreadable n3 n4 t small h = tt
-      cases Unreadable n2 n3 n4 t small h = tt
+          with_number n4 (λ cpus. then_some t (Start (record { base = base; size = size; arena = arena; cpus = cpus })))))))
+      cases (Some base) (Some size) (Some arena) (Some cpus) true small h = (h refl, small size refl)
+      cases (Some base) (Some size) (Some arena) (Some cpus) false small h = tt
+      cases (Some base) (Some size) (Some arena) None t small h = tt
+      cases (Some base) (Some size) None n4 t small h = tt
+      cases (Some base) None n3 n4 t small h = tt
+      cases None n2 n3 n4 t small h = tt
 
   upload-checked : Checked line (upload_in line)
   unfolding upload_in
-  upload-checked = if-provided (is_plain (field_of line 1) && is_hex (field_of line 2)) Upload λ h. (both (is_plain (field_of line 1)) (is_hex (field_of line 2)) h).1
+  upload-checked = if-then_some (is_plain (field_of line 1) && is_hex (field_of line 2)) Upload λ h. (both (is_plain (field_of line 1)) (is_hex (field_of line 2)) h).1
 
   get-checked : Checked line (get_in line)
   unfolding get_in
-  get-checked = if-provided (is_plain (field_of line 1)) Get λ h. tt
+  get-checked = if-then_some (is_plain (field_of line 1)) Get λ h. tt
 
   act-checked : Checked line (act_in line)
   unfolding act_in
   act-checked = cases (number_of number_most (field_of line 2)) (number_of number_most (field_of line 3)) (is_plain (field_of line 1))
     where
       cases :
-          (n1 n2 : Number) (t : Bool) →
-          Checked line (with_number n1 (λ action. with_number n2 (λ time. provided t (Act (record { action = action; time = time })))))
-      cases (Is action) (Is time) true = tt
-      cases (Is action) (Is time) false = tt
-      cases (Is action) Unreadable t = tt
-      cases Unreadable n2 t = tt
+          (n1 n2 : Option ℕ) (t : Bool) →
+          Checked line (with_number n1 (λ action. with_number n2 (λ time. then_some t (Act (record { action = action; time = time })))))
+      cases (Some action) (Some time) true = tt
+      cases (Some action) (Some time) false = tt
+      cases (Some action) None t = tt
+      cases None n2 t = tt
 
   report-checked : Checked line (report_in line)
   unfolding report_in
   report-checked = cases (number_of number_most (field_of line 1))
     where
-      cases : (n : Number) → Checked line (with_number n (λ cpu. Report cpu))
-      cases (Is cpu) = tt
-      cases Unreadable = tt
+      cases : (n : Option ℕ) → Checked line (with_number n (λ cpu. Some (Report cpu)))
+      cases (Some cpu) = tt
+      cases None = tt
 
   -- of every command that was read
   pub command-checked : Checked line (command_of line)
@@ -137,8 +135,8 @@ module _ (line : List ℕ) where
       either (is_command line (ascii "start") 5) _ _ start-checked
       (either (is_command line (ascii "upload") 2) _ _ upload-checked
       (either (is_command line (ascii "get") 1) _ _ get-checked
-      (either (is_command line (ascii "list") 0) Listing _ tt
+      (either (is_command line (ascii "list") 0) (Some Listing) _ tt
       (either (is_command line (ascii "act") 3) _ _ act-checked
       (either (is_command line (ascii "report") 1) _ _ report-checked
-      (either (is_command line (ascii "tick") 0) Tick _ tt
-      (either (is_command line (ascii "work") 0) Work NoCommand tt tt)))))))
+      (either (is_command line (ascii "tick") 0) (Some Tick) _ tt
+      (either (is_command line (ascii "work") 0) (Some Work) None tt tt)))))))

@@ -1,4 +1,5 @@
 -- Laws of digits: a decimal number byte by byte, and hex digits two by two.
+use Rattle.std.proofs.Common.{Some, None}
 use Prim.Native.Nat.{ℕ, zero, suc, ◌+◌, ◌-◌, ◌*◌, ◌/◌, ◌%◌, ◌≤◌, ◌<◌}
 use mathlib.Core.Path.{◌≡◌, refl, sym, ◌∙◌}
 use mathlib.Core.Bool.{Bool, true, false, ◌&&◌, ◌||◌}
@@ -9,12 +10,12 @@ use borrow.Author.Tests.{leb-true, le-leb, lt-leb}
 use lib.Dec.{leb, eqb}
 use lib.ListN.{length, get_or, take, drop, drop_of_length-le}
 use lib.Seq.{drop-cons, length-take-le, get_or-take}
+use Rattle.std.specs.List.{list_all}
 use Rattle.words.specs.Find.{every}
 use Rattle.words.proofs.Tests.{both, three}
 use Rattle.script.specs.Decimal.{is_digit, value_from, value, number_of}
 use Rattle.script.specs.Fields.{is_plain}
 use Rattle.script.specs.Hex.{is_hex_digit, hex_value, is_hex, hex_bytes}
-use Rattle.script.specs.declared.decimal.Number.TheVariants.{Is, Unreadable}
 
 and-false : (t : Bool) → (t && false) ≡ false
 and-false true = refl
@@ -54,6 +55,12 @@ module _ (test : ℕ → Bool) (s : List ℕ) (i : ℕ) where
       i < length s → every test s ≡ every test (drop i s) → test (get_or s i 0) ≡ true → every test s ≡ every test (drop (i + 1) s)
   every-goes-on h so_far passes = so_far ∙ every-from h ∙ rw passes
 
+-- as std says it of an iterator's `all`
+pub every-list_all : (test : ℕ → Bool) (s : List ℕ) → every test s ≡ list_all test s
+unfolding every
+every-list_all test [] = refl
+every-list_all test (b ∷ s) = rw (every-list_all test s)
+
 -- ---- decimal
 
 pub digit_low : (b : ℕ) → b < 48 → is_digit b ≡ false
@@ -83,19 +90,19 @@ value_grows v [] = omega arith
 value_grows v (b ∷ s) = omega (arith, value_grows (v * 10 + (b - 48)) s)
 
 module _ (most : ℕ) (s : List ℕ) where
-  pub empty-unreadable : is_plain s ≡ false → number_of most s ≡ Unreadable
+  pub empty-unreadable : is_plain s ≡ false → number_of most s ≡ None
   unfolding number_of
   empty-unreadable h = rw h
 
-  pub other-unreadable : is_plain s ≡ true → every is_digit s ≡ false → number_of most s ≡ Unreadable
+  pub other-unreadable : is_plain s ≡ true → every is_digit s ≡ false → number_of most s ≡ None
   unfolding number_of
   other-unreadable some h = rw (some, h)
 
-  pub large-unreadable : most < value s → number_of most s ≡ Unreadable
+  pub large-unreadable : most < value s → number_of most s ≡ None
   unfolding number_of
   large-unreadable h = rw (lt-leb (value s) most h, and-false (is_plain s && every is_digit s))
 
-  pub number_read : is_plain s ≡ true → every is_digit s ≡ true → value s ≤ most → number_of most s ≡ Is (value s)
+  pub number_read : is_plain s ≡ true → every is_digit s ≡ true → value s ≤ most → number_of most s ≡ Some (value s)
   unfolding number_of
   number_read some digits h = rw (some, digits, le-leb (value s) most h)
 

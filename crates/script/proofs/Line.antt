@@ -9,6 +9,7 @@ use borrow.Author.Tests.{eq-eqb, ne_eqb}
 use lib.Dec.{eqb, eqb-suc-suc}
 use lib.ListN.{length, get_or, take, drop, length-drop, drop_of_length-le}
 use lib.Seq.{drop-cons, take-suc, get_or-drop}
+use Rattle.std.specs.List.{filter}
 use Rattle.words.specs.Order.{equal}
 use Rattle.words.specs.Splice.{part}
 use Rattle.words.proofs.Splice.{length_part}
@@ -35,6 +36,18 @@ some-field (b ∷ s) = cases (eqb b space) b (fields_of s) (some-field s)
     cases true b fs h = omega arith
     cases false b fs h = rw (length-in-front b fs) h
 
+-- a field stands behind each space, and one in front of all
+pub count-fields : (s : List ℕ) → suc (length (filter (λ b. eqb b space) s)) ≡ length (fields_of s)
+unfolding fields_of
+count-fields [] = refl
+count-fields (b ∷ s) = cases (eqb b space) b (filter (λ b. eqb b space) s) (fields_of s) (count-fields s)
+  where
+    cases :
+        (t : Bool) (b : ℕ) (spaces : List ℕ) (fs : List (List ℕ)) → suc (length spaces) ≡ length fs →
+        suc (length (cond t (b ∷ spaces) spaces)) ≡ length (cond t ([] ∷ fs) (in_front b fs))
+    cases true b spaces fs h = ap suc h
+    cases false b spaces fs h = h ∙ sym (length-in-front b fs)
+
 module _ (s : List ℕ) (i : ℕ) where
   module _ (h : i < length s) where
     -- at a space a field more begins
@@ -42,9 +55,6 @@ module _ (s : List ℕ) (i : ℕ) where
       fields-space : fields_of (drop i s) ≡ [] ∷ fields_of (drop (i + 1) s)
       unfolding fields_of
       fields-space = rw (add-one i, drop-cons s i 0 h, eq-eqb _ _ e)
-
-      pub count-space : length (fields_of (drop i s)) ≡ suc (length (fields_of (drop (i + 1) s)))
-      count-space = rw fields-space
 
       pub later-space : (k : ℕ) → field_of (drop i s) (suc k) ≡ field_of (drop (i + 1) s) k
       unfolding field_of
@@ -60,9 +70,6 @@ module _ (s : List ℕ) (i : ℕ) where
       unfolding fields_of
       fields-byte = rw (add-one i, drop-cons s i 0 h, ne_eqb _ _ e)
 
-      pub count-byte : length (fields_of (drop i s)) ≡ length (fields_of (drop (i + 1) s))
-      count-byte = rw fields-byte (length-in-front (get_or s i 0) (fields_of (drop (i + 1) s)))
-
       pub later-byte : (k : ℕ) → field_of (drop i s) (suc k) ≡ field_of (drop (i + 1) s) (suc k)
       unfolding field_of
       later-byte k = rw fields-byte (later-in-front (get_or s i 0) k (fields_of (drop (i + 1) s)))
@@ -76,10 +83,6 @@ module _ (s : List ℕ) (i : ℕ) where
   unfolding field_of fields_of
   field_end h zero = rw (drop_of_length-le s h)
   field_end h (suc k) = rw (drop_of_length-le s h)
-
-  pub count-end : length s ≤ i → length (fields_of (drop i s)) ≡ 1
-  unfolding fields_of
-  count-end h = rw (drop_of_length-le s h)
 
 -- ---- the first field of what begins at `from`, in the bytes up to i and the first field from there on
 

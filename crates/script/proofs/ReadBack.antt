@@ -1,4 +1,5 @@
 -- What was written is read back: a number in decimal, and bytes in hex.
+use Rattle.std.proofs.Common.{Some}
 use Prim.Native.Nat.{ℕ, zero, suc, ◌+◌, ◌-◌, ◌*◌, ◌/◌, ◌%◌, ◌^◌, ◌≤◌, ◌<◌}
 use mathlib.Core.Path.{◌≡◌, refl, ◌∙◌}
 use mathlib.Core.Bool.{Bool, true, false, cond}
@@ -13,7 +14,6 @@ use Rattle.words.proofs.Tests.{both}
 use Rattle.script.specs.Decimal.{is_digit, value_from, value, number_of, digits_up_to, digits_max, decimal}
 use Rattle.script.specs.Fields.{is_plain}
 use Rattle.script.specs.Hex.{is_hex_digit, hex_value, is_hex, hex_bytes, hex_digit, in_hex}
-use Rattle.script.specs.declared.decimal.Number.TheVariants.{Is}
 use Rattle.script.proofs.Digits.{hex-digit, hex-letter, other-no-hex}
 
 -- ---- the value
@@ -81,7 +81,7 @@ plain-decimal n = plain_more (cond (ltb n 10) [] (digits_up_to 19 (n / 10))) (48
 
 -- ---- read back
 
-pub read_back : (most n : ℕ) → n ≤ most → n < 10 ^ digits_max → number_of most (decimal n) ≡ Is n
+pub read_back : (most n : ℕ) → n ≤ most → n < 10 ^ digits_max → number_of most (decimal n) ≡ Some n
 unfolding number_of
 read_back most n h room = rw (plain-decimal n, every-decimal n, value-decimal n room, le-leb n most h)
 

@@ -1,9 +1,7 @@
 -- W2: "numbers decimal", read and written.
-use Rattle.std.specs.Prelude.{ℕ, zero, suc, ◌+◌, ◌-◌, ◌*◌, ◌/◌, ◌%◌, Bool, cond, ◌&&◌, List, [], ◌∷◌, ◌++◌, leb, ltb}
+use Rattle.std.specs.Prelude.{ℕ, zero, suc, ◌+◌, ◌-◌, ◌*◌, ◌/◌, ◌%◌, Bool, cond, ◌&&◌, List, [], ◌∷◌, ◌++◌, leb, ltb, Some, None, Option}
 use Rattle.words.specs.Find.{every}
 use Rattle.script.specs.Fields.{is_plain}
-use Rattle.script.specs.declared.decimal.Number.{Number}
-use Rattle.script.specs.declared.decimal.Number.TheVariants.{Is, Unreadable}
 
 abbrev pub is_digit : ℕ → Bool
 is_digit b = leb 48 b && leb b 57
@@ -17,8 +15,8 @@ abbrev pub value : List ℕ → ℕ
 value s = value_from 0 s
 
 -- digits alone, at least one, and a value of at most `most`; zeros in front are read
-unfoldable pub number_of : ℕ → List ℕ → Number
-number_of most s = cond (is_plain s && every is_digit s && leb (value s) most) (Is (value s)) Unreadable
+unfoldable pub number_of : ℕ → List ℕ → Option ℕ
+number_of most s = cond (is_plain s && every is_digit s && leb (value s) most) (Some (value s)) None
 
 -- the digits of n, at most k of them, with no zero in front of another digit
 unfoldable pub digits_up_to : ℕ → ℕ → List ℕ

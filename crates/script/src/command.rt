@@ -2,7 +2,6 @@
 ghost use Rattle.std.specs.Prelude.{◌≡◌};
 ghost use Rattle.script.specs.Command.{start_in, upload_in, get_in, act_in, report_in, command_of};
 
-use super::decimal::Number;
 use super::{decimal, fields, hex};
 
 // The numbers of a start-up: text's base and size, arena's base, CPUs.
@@ -32,7 +31,6 @@ pub enum Command {
     Report(u32),
     Tick,
     Work,
-    Unreadable,
 }
 
 const BASE_MOST: u64 = u64::MAX;
@@ -41,82 +39,59 @@ const NUMBER_MOST: u64 = 4294967295;
 
 const SIZE_MOST: u64 = 65536;
 
-fn start_in(line: &[u8]) -> Command
+fn start_in(line: &[u8]) -> Option<Command>
     ensures { result ≡ start_in line.now }
 {
-    let Number::Is(base) = decimal::read_field(line, 1, BASE_MOST) else {
-        return Command::Unreadable;
-    };
-    let Number::Is(size) = decimal::read_field(line, 2, SIZE_MOST) else {
-        return Command::Unreadable;
-    };
-    let Number::Is(arena) = decimal::read_field(line, 3, BASE_MOST) else {
-        return Command::Unreadable;
-    };
-    let Number::Is(cpus) = decimal::read_field(line, 4, NUMBER_MOST) else {
-        return Command::Unreadable;
-    };
+    let base = decimal::read_field(line, 1, BASE_MOST)?;
+    let size = decimal::read_field(line, 2, SIZE_MOST)?;
+    let arena = decimal::read_field(line, 3, BASE_MOST)?;
+    let cpus = decimal::read_field(line, 4, NUMBER_MOST)?;
     if !hex::is_hex_field(line, 5) {
-        return Command::Unreadable;
+        return None;
     }
-    Command::Start(Host {
+    Some(Command::Start(Host {
         base,
         size: size as usize,
         arena,
         cpus: cpus as u32,
-    })
+    }))
 }
 
-fn upload_in(line: &[u8]) -> Command
+fn upload_in(line: &[u8]) -> Option<Command>
     ensures { result ≡ upload_in line.now }
 {
-    if !fields::is_plain_field(line, 1) {
-        return Command::Unreadable;
-    }
-    if !hex::is_hex_field(line, 2) {
-        return Command::Unreadable;
-    }
-    Command::Upload
+    (fields::is_plain_field(line, 1) && hex::is_hex_field(line, 2)).then_some(Command::Upload)
 }
 
-fn get_in(line: &[u8]) -> Command
+fn get_in(line: &[u8]) -> Option<Command>
     ensures { result ≡ get_in line.now }
 {
-    if !fields::is_plain_field(line, 1) {
-        return Command::Unreadable;
-    }
-    Command::Get
+    fields::is_plain_field(line, 1).then_some(Command::Get)
 }
 
-fn act_in(line: &[u8]) -> Command
+fn act_in(line: &[u8]) -> Option<Command>
     ensures { result ≡ act_in line.now }
 {
-    let Number::Is(action) = decimal::read_field(line, 2, NUMBER_MOST) else {
-        return Command::Unreadable;
-    };
-    let Number::Is(time) = decimal::read_field(line, 3, NUMBER_MOST) else {
-        return Command::Unreadable;
-    };
+    let action = decimal::read_field(line, 2, NUMBER_MOST)?;
+    let time = decimal::read_field(line, 3, NUMBER_MOST)?;
     if !fields::is_plain_field(line, 1) {
-        return Command::Unreadable;
+        return None;
     }
-    Command::Act(Request {
+    Some(Command::Act(Request {
         action: action as u32,
         time: time as u32,
-    })
+    }))
 }
 
-fn report_in(line: &[u8]) -> Command
+fn report_in(line: &[u8]) -> Option<Command>
     ensures { result ≡ report_in line.now }
 {
-    let Number::Is(cpu) = decimal::read_field(line, 1, NUMBER_MOST) else {
-        return Command::Unreadable;
-    };
-    Command::Report(cpu as u32)
+    let cpu = decimal::read_field(line, 1, NUMBER_MOST)?;
+    Some(Command::Report(cpu as u32))
 }
 
-// The command of a line, which has no line feed.
-pub fn read(line: &[u8]) -> Command
+// The command of a line, which has no line feed; none where it is unreadable.
+pub fn read(line: &[u8]) -> Option<Command>
     ensures { result ≡ command_of line.now }
 {
     if fields::is_command(line, b"start", 5) {
@@ -129,7 +104,7 @@ pub fn read(line: &[u8]) -> Command
         return get_in(line);
     }
     if fields::is_command(line, b"list", 0) {
-        return Command::List;
+        return Some(Command::List);
     }
     if fields::is_command(line, b"act", 3) {
         return act_in(line);
@@ -138,10 +113,10 @@ pub fn read(line: &[u8]) -> Command
         return report_in(line);
     }
     if fields::is_command(line, b"tick", 0) {
-        return Command::Tick;
+        return Some(Command::Tick);
     }
     if fields::is_command(line, b"work", 0) {
-        return Command::Work;
+        return Some(Command::Work);
     }
-    Command::Unreadable
+    None
 }

@@ -5,13 +5,6 @@ ghost use Rattle.script.specs.Fields.{field_of};
 
 use super::fields;
 
-// A number, or what is none or too large.
-#[derive(Clone, Copy)]
-pub enum Number {
-    Is(u64),
-    Unreadable,
-}
-
 fn wide(b: u8) -> u64
     ensures { result ≡ b }
 {
@@ -19,38 +12,36 @@ fn wide(b: u8) -> u64
 }
 
 // The number of the digits `s`, where it is at most `most`.
-pub(crate) fn read(s: &[u8], most: u64) -> Number
+pub(crate) fn read(s: &[u8], most: u64) -> Option<u64>
     ensures { result ≡ number_of most s.now }
 {
     if s.len() == 0 {
-        return Number::Unreadable;
+        return None;
     }
     let mut v: u64 = 0;
-    let mut i = 0;
-    while i < s.len() {
-        let b = wide(s[i]);
+    for digit in s {
+        let b = wide(*digit);
         if b < 48 {
-            return Number::Unreadable;
+            return None;
         }
         if 57 < b {
-            return Number::Unreadable;
+            return None;
         }
         if most / 10 < v {
-            return Number::Unreadable;
+            return None;
         }
         let tens = v * 10;
         let d = b - 48;
         if most - tens < d {
-            return Number::Unreadable;
+            return None;
         }
         v = tens + d;
-        i += 1;
     }
-    Number::Is(v)
+    Some(v)
 }
 
 // The number in field `k` of the line.
-pub(crate) fn read_field(line: &[u8], k: usize, most: u64) -> Number
+pub(crate) fn read_field(line: &[u8], k: usize, most: u64) -> Option<u64>
     ensures { result ≡ number_of most (field_of line.now k) }
 {
     let span = fields::field(line, k);

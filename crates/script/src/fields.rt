@@ -14,15 +14,7 @@ pub struct Span {
 fn behind_first(line: &[u8]) -> usize
     ensures { suc result ≡ length (fields_of line.now) }
 {
-    let mut n = 0;
-    let mut i = 0;
-    while i < line.len() {
-        if line[i] == b' ' {
-            n += 1;
-        }
-        i += 1;
-    }
-    n
+    line.iter().filter(|b| **b == b' ').count()
 }
 
 // Where field `k` begins; the line's end where it has no such field.
@@ -30,17 +22,15 @@ fn begin(line: &[u8], k: usize) -> usize
     ensures { (result ≤ length line.now) × (field_of line.now k ≡ field_of (drop result line.now) 0) }
 {
     let mut left = k;
-    let mut i = 0;
-    while i < line.len() {
+    for (i, b) in line.iter().enumerate() {
         if left == 0 {
             return i;
         }
-        if line[i] == b' ' {
+        if *b == b' ' {
             left -= 1;
         }
-        i += 1;
     }
-    i
+    line.len()
 }
 
 // Where the field that begins at `from` ends.
@@ -49,14 +39,12 @@ fn end(line: &[u8], from: usize) -> usize
     ensures { (from ≤ result) × (result ≤ length line.now)
         × (part line.now from (result - from) ≡ field_of (drop from line.now) 0) }
 {
-    let mut i = from;
-    while i < line.len() {
+    for i in from..line.len() {
         if line[i] == b' ' {
             return i;
         }
-        i += 1;
     }
-    i
+    line.len()
 }
 
 // Field `k`, counted from 0; an empty one where the line has no such field.

@@ -41,14 +41,7 @@ pub fn is_hex(s: &[u8]) -> bool
     if s.len() % 2 != 0 {
         return false;
     }
-    let mut i = 0;
-    while i < s.len() {
-        if !is_digit(s[i]) {
-            return false;
-        }
-        i += 1;
-    }
-    true
+    s.iter().all(|b| is_digit(*b))
 }
 
 // Whether field `k` of the line is hex.
@@ -66,11 +59,9 @@ pub fn decode(s: &[u8], n: usize, out: &mut [u8], at: usize)
     requires { (is_hex s.now ≡ true) × (2 * n ≤ length s.now) × (at + n ≤ length out.old) }
     ensures { out.new ≡ splice out.old at (take n (hex_bytes s.now)) }
 {
-    let mut i = 0;
-    while i < n {
+    for i in 0..n {
         let high = digit_value(s[2 * i]);
         let low = digit_value(s[2 * i + 1]);
         out[at + i] = 16 * high + low;
-        i += 1;
     }
 }

@@ -1,9 +1,9 @@
 -- No claim about runs is empty: a start-up whose sizes and numbers are right is accepted, and after it every list of calls has a run.
+use Rattle.std.proofs.Common.{Ok}
 use Prim.Native.Nat.{ℕ}
 use mathlib.Core.Path.{refl}
 use mathlib.Core.List.{List, [], ◌∷◌}
 use lib.ListN.{replicate}
-use Rattle.records.specs.declared.refusal.Verdict.TheVariants.{Pass}
 use Rattle.memory.specs.Memory.{arena_size, undo_size, ids_size}
 use Rattle.upload.specs.Upload as upload
 use Rattle.upload.proofs.Accepting.{uploads}
@@ -166,7 +166,7 @@ starts-accepted a right = (
       (lent-mut (replicate ids_size 0))
       (lent a.build_id)
       a.cpus
-      (record { verdict = Pass; state = _ })
+      (record { verdict = Ok tt; state = _ })
       (lent-mut (replicate arena_size 0))
       (lent-mut (replicate undo_size 0))
       (lent-mut (replicate ids_size 0))

@@ -1,9 +1,9 @@
 -- The claim about every sequence of calls: an accepted start-up leaves memory that stands for the model, and each call keeps it so.
+use Rattle.records.specs.Refusal.{Verdict}
+use Rattle.std.proofs.Common.{Ok}
 use Prim.Native.Nat.{ℕ}
 use mathlib.Core.Path.{◌≡◌, refl, ap, ap₂, subst⁻¹, ◌∙◌}
 use mathlib.Core.List.{List, [], ◌∷◌, map}
-use Rattle.records.specs.declared.refusal.Verdict.{Verdict}
-use Rattle.records.specs.declared.refusal.Verdict.TheVariants.{Pass}
 use Rattle.state.specs.declared.state.Called.{Called}
 use Rattle.actions.specs.Actions as actions
 use Rattle.upload.specs.Upload as upload
@@ -16,10 +16,11 @@ use Rattle.invariant.specs.Sound.{Sound}
 use Rattle.invariant.proofs.Jobs.{jobs}
 use Rattle.invariant.proofs.Step.{sound-step, sound-after}
 use Rattle.invariant.proofs.Facts.{steps-few}
+use Rattle.refinement.specs.Replies.{tells_of}
 use Rattle.refinement.specs.Stands.{Loader, record_of, Stands}
 use Rattle.refinement.proofs.Actions.{ActionAgrees, act-agrees}
 use Rattle.refinement.proofs.Lookups.{name-of-record}
-use Rattle.refinement.proofs.Queries.{tells_of, lists_of, get-agrees, list-agrees, top-id-agrees}
+use Rattle.refinement.proofs.Queries.{listing_reply, get-agrees, list-agrees, top-id-agrees}
 use Rattle.refinement.proofs.Rendezvous as rendezvous
 use Rattle.refinement.proofs.Upload.{UploadAgrees, upload-agrees}
 use Rattle.refinement.proofs.Work as working
@@ -77,7 +78,7 @@ turn-agrees l (by_upload κs s text arena undo ids build_id name symbols file r 
     upload-turn k sound name.now symbols.now file.now learnt.equal
 turn-agrees l (by_get κs u name r learnt) k sound = (ap tells_of learnt ∙ get-agrees k sound name.now, k)
 turn-agrees l (by_list κs u idx nr statuses names lengths r statuses' names' lengths' learnt) k sound = (
-  ap lists_of learnt ∙ list-agrees k sound idx nr (record { statuses = statuses.now; names = names.now; lengths = lengths.now }),
+  ap listing_reply learnt ∙ list-agrees k sound idx nr (record { statuses = statuses.now; names = names.now; lengths = lengths.now }),
   k,
 )
 turn-agrees l (by_act κs s text arena undo ids build_id name command time r arena' undo' ids' learnt) k sound =
@@ -121,7 +122,7 @@ matches {u} {l} k =
       ids = k.ids;
     }
 
-pub started-stands : {a : Start} {v : Verdict} {u : Loader} → Started a v u → v ≡ Pass → Stands u (opened a) × Sound (opened a)
+pub started-stands : {a : Start} {v : Verdict} {u : Loader} → Started a v u → v ≡ Ok tt → Stands u (opened a) × Sound (opened a)
 started-stands (by_start κs text text_base arena arena_base undo ids build_id cpus r arena' undo' ids' learnt) pass =
     start-stands _ _ learnt pass
 

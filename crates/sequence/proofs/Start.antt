@@ -1,11 +1,11 @@
 -- An accepted start-up: the memory that it leaves stands for the model in which nothing is loaded.
+use Rattle.std.proofs.Common.{Ok, Err}
 use mathlib.Core.Path.{◌≡◌, refl, subst⁻¹}
 use mathlib.Core.Bool.{true}
 use lib.ListN.{length, replicate}
 use Rattle.words.proofs.Tests.{both}
 use Rattle.records.specs.declared.refusal.Place.TheVariants.{Nowhere}
 use Rattle.records.specs.declared.refusal.Refusal.{Refusal}
-use Rattle.records.specs.declared.refusal.Verdict.TheVariants.{Pass, Refuse}
 use Rattle.records.proofs.Checks.{Told, must-pass, rules-told, answer-told}
 use Rattle.memory.specs.Config.{config_ok}
 use Rattle.memory.specs.Memory.{arena_size, undo_size, ids_size}
@@ -28,7 +28,7 @@ loader_for l x =
     record { state = x.state; text = l.text; arena = x.arena; undo = x.undo; ids = x.ids; build_id = l.build_id }
 
 -- where no rule is broken the numbers are right
-numbers-right : (l : Lent) → start_rules l ≡ Pass → config_ok (config_of (start_for l)) ≡ true
+numbers-right : (l : Lent) → start_rules l ≡ Ok tt → config_ok (config_of (start_for l)) ≡ true
 unfolding start_rules
 numbers-right l h = (both (stores_ok (length l.arena) (length l.undo) (length l.ids)) (config_ok (config_for l)) (must-pass _ 22 Nowhere h)).1
 
@@ -41,7 +41,7 @@ sound-numbers a h =
 abbrev accepted_start : Lent → Started
 accepted_start l =
     record {
-      answer = Pass;
+      answer = Ok tt;
       state = state_with (config_for l);
       arena = replicate arena_size 0;
       undo = replicate undo_size 0;
@@ -49,12 +49,12 @@ accepted_start l =
     }
 
 abbrev refused_start : Lent → Refusal → Started
-refused_start l r = record { answer = Refuse r; state = no_state; arena = l.arena; undo = l.undo; ids = l.ids }
+refused_start l r = record { answer = Err r; state = no_state; arena = l.arena; undo = l.undo; ids = l.ids }
 
 told : (l : Lent) → Told (λ (x : Started). x.answer) (refused_start l) (accepted_start l)
 told l = record { refusing = λ r. refl; accepting = refl }
 
-accepted-stands : (l : Lent) → start_rules l ≡ Pass → Stands (loader_for l (accepted_start l)) (opened (start_for l))
+accepted-stands : (l : Lent) → start_rules l ≡ Ok tt → Stands (loader_for l (accepted_start l)) (opened (start_for l))
 unfolding state_with text_with undo_with store_of
 accepted-stands l h =
     record {
@@ -78,11 +78,11 @@ accepted-stands l h =
       build_id = refl;
     }
 
-pub start-stands : (l : Lent) (x : Started) → x ≡ start_of l → x.answer ≡ Pass → Stands (loader_for l x) (opened (start_for l)) × Sound (opened (start_for l))
+pub start-stands : (l : Lent) (x : Started) → x ≡ start_of l → x.answer ≡ Ok tt → Stands (loader_for l x) (opened (start_for l)) × Sound (opened (start_for l))
 unfolding start_of
 start-stands l x e pass =
-    let rules = rules-told _ _ _ (told l) (start_rules l) Pass e pass in
-    let answer = answer-told _ _ _ (told l) (start_rules l) Pass e pass in (
+    let rules = rules-told _ _ _ (told l) (start_rules l) (Ok tt) e pass in
+    let answer = answer-told _ _ _ (told l) (start_rules l) (Ok tt) e pass in (
       subst⁻¹ (λ (y : Started). Stands (loader_for l y) (opened (start_for l))) answer (accepted-stands l rules),
       sound-start (start_for l) (sound-numbers (start_for l) (numbers-right l rules)),
     )

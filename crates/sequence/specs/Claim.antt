@@ -1,7 +1,6 @@
 -- The one claim about the whole sequence. A run's every beginning is a run, so all of it holds at each step on the way.
-use Rattle.std.specs.Prelude.{ℕ, ◌≡◌, true, List, map}
+use Rattle.std.specs.Prelude.{ℕ, ◌≡◌, true, List, map, Ok}
 use Rattle.records.specs.declared.payload.Payload.{Payload}
-use Rattle.records.specs.declared.refusal.Verdict.TheVariants.{Pass}
 use Rattle.memory.specs.Config.{config_ok}
 use Rattle.state.specs.State.{loaded, name_of}
 use Rattle.model.specs.Calls.{Call, Reply}
@@ -44,12 +43,12 @@ pub record Claimed (a : Start) (cs : List Call) (rs : List Reply) (u : Loader) :
 
 abbrev pub EverySequence : Type 0
 EverySequence =
-    (a : Start) (u u' : Loader) (cs : List Call) (rs : List Reply) → Started a Pass u → Run u cs rs u' → Claimed a cs rs u'
+    (a : Start) (u u' : Loader) (cs : List Call) (rs : List Reply) → Started a (Ok tt) u → Run u cs rs u' → Claimed a cs rs u'
 
 -- ---- it is not empty: a start-up with right sizes and numbers is accepted, and after it every list of calls has a run
 
 abbrev pub StartsAccepted : Type 0
-StartsAccepted = (a : Start) → config_ok (config_of a) ≡ true → (u : Loader) × Started a Pass u
+StartsAccepted = (a : Start) → config_ok (config_of a) ≡ true → (u : Loader) × Started a (Ok tt) u
 
 abbrev pub EveryCallRuns : Type 0
-EveryCallRuns = (a : Start) (u : Loader) (cs : List Call) → Started a Pass u → (rs : List Reply) × (u' : Loader) × Run u cs rs u'
+EveryCallRuns = (a : Start) (u : Loader) (cs : List Call) → Started a (Ok tt) u → (rs : List Reply) × (u' : Loader) × Run u cs rs u'

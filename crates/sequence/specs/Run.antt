@@ -1,15 +1,17 @@
 -- A run of the loader: each turn is a call of the real function, known by the function's own contract (`Known`, which is what its `ensures` states), at
 -- references whose `now` is the memory as the call before left it. Pointers, ghost names and lifetimes are arbitrary.
-use Rattle.std.specs.Prelude.{ℕ, refl, List, [], ◌∷◌}
+use Rattle.records.specs.Refusal.{Verdict}
+use Rattle.records.specs.declared.refusal.Refusal.{Refusal}
+use Rattle.std.specs.Prelude.{ℕ, Result, refl, List, [], ◌∷◌}
 use contract.Lifetimes.{Lfts}
 use Rattle.std.specs.Borrow.{Bor, MutBor}
-use Rattle.records.specs.declared.refusal.Verdict.{Verdict}
 use Rattle.state.specs.declared.state.Called.{Called}
 use Rattle.state.specs.declared.state.State.{State}
 use Rattle.queries.specs.declared.get.Got.{Got}
 use Rattle.listing.specs.declared.Listed.{Listed}
-use Rattle.model.specs.Calls.{Call, Upload, Get, ListFrom, Act, Report, Tick, Work, TopId, Reply, Says, Tells, Lists, HandsOut}
+use Rattle.model.specs.Calls.{Call, Upload, Get, ListFrom, Act, Report, Tick, Work, TopId, Reply, Says, HandsOut}
 use Rattle.model.specs.Model.{Start}
+use Rattle.refinement.specs.Replies.{tells_of, lists_of}
 use Rattle.refinement.specs.Stands.{Loader}
 use Rattle.startup.specs.contracts.start as start
 use Rattle.upload.specs.contracts.upload.upload as upload
@@ -64,20 +66,19 @@ pub data Turn : Loader → Call → Reply → Loader → Type 0 where
       (Says r.verdict)
       (record { state = r.state; text = text; arena = arena'.now; undo = undo; ids = ids'.now; build_id = build_id })
   by_get :
-      (κs : Lfts 1) (u : Loader) (name : Bytes) (r : Got) →
+      (κs : Lfts 1) (u : Loader) (name : Bytes) (r : Result Got Refusal) →
       Known get.ended (λ w. get.clauses w.𝓛 w.𝓜.mem w.𝓡.returns) κs
       (u.state, (name, tt)) r
       (u.state, (name, tt)) (λ w g. refl) →
-      Turn u (Get name.now) (Tells r.verdict r.status r.result) u
+      Turn u (Get name.now) (tells_of r) u
   by_list :
-      (κs : Lfts 3) (u : Loader) (idx nr : ℕ) (statuses names lengths : MutBytes) (r : Listed) (statuses' names' lengths' : MutBytes) →
+      (κs : Lfts 3) (u : Loader) (idx nr : ℕ) (statuses names lengths : MutBytes) (r : Result Listed Refusal) (statuses' names' lengths' : MutBytes) →
       Known list.ended (λ w. list.clauses w.𝓛 w.𝓜.mem w.𝓡.returns) κs
       (u.state, (idx, (nr, (statuses, (names, (lengths, tt)))))) r
       (u.state, (idx, (nr, (statuses', (names', (lengths', tt)))))) (λ w g. refl) →
       Turn u
       (ListFrom idx nr (record { statuses = statuses.now; names = names.now; lengths = lengths.now }))
-      (Lists r.verdict r.written r.left r.version
-      (record { statuses = statuses'.now; names = names'.now; lengths = lengths'.now }))
+      (lists_of (record { statuses = statuses'.now; names = names'.now; lengths = lengths'.now }) r)
       u
   by_act :
       (κs : Lfts 5) (s : State) (text : List ℕ) (arena undo ids : MutBytes) (build_id name : Bytes) (command time : ℕ) (r : Called)

@@ -1,4 +1,5 @@
 -- Start-up by what its tests answered.
+use Rattle.std.proofs.Common.{Ok}
 use Prim.Native.Nat.{ℕ, ◌<◌}
 use mathlib.Core.Path.{◌≡◌, refl, sym, ◌∙◌}
 use mathlib.Core.Bool.{Bool, true, false, ◌&&◌}
@@ -10,7 +11,6 @@ use lib.ListN.{length, replicate, length-replicate}
 use Rattle.words.specs.Splice.{splice}
 use Rattle.words.proofs.Splice.{splice-whole}
 use Rattle.records.specs.Limits.{id_max}
-use Rattle.records.specs.declared.refusal.Verdict.TheVariants.{Pass}
 use Rattle.memory.specs.Config.{config_ok}
 use Rattle.memory.specs.Memory.{arena_size, undo_size, ids_size}
 use Rattle.memory.specs.declared.config.Config.{Config}
@@ -22,7 +22,7 @@ use Rattle.startup.specs.Start.{Lent, config_for, stores_ok, start_rules, starte
 
 -- an accepted unit's answer
 abbrev pub accepted_start : Config → Called
-accepted_start c = record { verdict = Pass; state = state_with c }
+accepted_start c = record { verdict = Ok tt; state = state_with c }
 
 abbrev pub start_ok : Lent → Bool
 start_ok l = stores_ok (length l.arena) (length l.undo) (length l.ids) && config_ok (config_for l)

@@ -1,9 +1,8 @@
 -- Document 01: start-up.
-use Rattle.std.specs.Prelude.{ℕ, Bool, false, ◌&&◌, List, eqb, length, replicate}
+use Rattle.records.specs.Refusal.{Verdict}
+use Rattle.std.specs.Prelude.{ℕ, Bool, false, ◌&&◌, List, eqb, length, replicate, Ok, Err}
 use Rattle.records.specs.Verdict.{must, decide}
 use Rattle.records.specs.declared.refusal.Place.TheVariants.{Nowhere}
-use Rattle.records.specs.declared.refusal.Verdict.{Verdict}
-use Rattle.records.specs.declared.refusal.Verdict.TheVariants.{Pass, Refuse}
 use Rattle.machine.specs.declared.processor.Processor.TheVariants.{X86_64}
 use Rattle.memory.specs.Config.{config_ok}
 use Rattle.memory.specs.Memory.{arena_size, undo_size, ids_size}
@@ -63,9 +62,9 @@ refused_start = record { verdict = must false 22 Nowhere; state = no_state }
 unfoldable pub start_of : Lent → Started
 start_of l =
     decide
-    (λ r. record { answer = Refuse r; state = no_state; arena = l.arena; undo = l.undo; ids = l.ids })
+    (λ r. record { answer = Err r; state = no_state; arena = l.arena; undo = l.undo; ids = l.ids })
     (record {
-      answer = Pass;
+      answer = Ok tt;
       state = state_with (config_for l);
       arena = replicate arena_size 0;
       undo = replicate undo_size 0;

@@ -7,7 +7,7 @@ ghost use Rattle.startup.specs.Start.{stores_ok, refused_start, started, start_o
 use machine::processor::Processor;
 use memory::config::Config;
 use records::payload::Payload;
-use records::refusal::{Place, Reason, Verdict};
+use records::refusal::{self, Place, Reason};
 use state::state::{Called, State};
 
 fn stores_ok(arena: usize, undo: usize, ids: usize) -> bool
@@ -25,7 +25,7 @@ fn stores_ok(arena: usize, undo: usize, ids: usize) -> bool
 fn refuse() -> Called
     ensures { result ≡ refused_start }
 {
-    let verdict = Verdict::refused(Reason::Invalid, Place::Nowhere);
+    let verdict = refusal::refused(Reason::Invalid, Place::Nowhere);
     let state = State::with_config(Config::none());
     Called { verdict, state }
 }
@@ -75,7 +75,7 @@ pub fn start(
     words::bytes::fill(ids, 0, Config::IDS_SIZE, 0);
     let state = State::with_config(config);
     Called {
-        verdict: Verdict::Pass,
+        verdict: Ok(()),
         state,
     }
 }

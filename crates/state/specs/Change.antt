@@ -1,7 +1,5 @@
 -- One payload of the state changed.
-use Rattle.std.specs.Prelude.{ℕ, set}
-use Rattle.words.specs.declared.bytes.Found.{Found}
-use Rattle.words.specs.declared.bytes.Found.TheVariants.{At, Nothing}
+use Rattle.std.specs.Prelude.{ℕ, set, Some, None, Option}
 use Rattle.records.specs.declared.payload.Payload.{Payload}
 use Rattle.state.specs.Find.{with_slot, payload_at}
 use Rattle.state.specs.State.{with_payloads}
@@ -11,9 +9,9 @@ use Rattle.state.specs.declared.state.State.{State}
 abbrev pub changed_at : (Payload → Payload) → State → ℕ → State
 changed_at f s i = with_payloads (set s.payloads i (f (payload_at s i))) s
 
-abbrev pub changed_found : (Payload → Payload) → State → Found → State
-changed_found f s (At i) = changed_at f s i
-changed_found f s Nothing = s
+abbrev pub changed_found : (Payload → Payload) → State → Option ℕ → State
+changed_found f s (Some i) = changed_at f s i
+changed_found f s None = s
 
 -- the payload in a slot
 unfoldable pub changed_in : (Payload → Payload) → State → ℕ → State

@@ -1,9 +1,9 @@
 -- What the loader keeps between two calls.
+use Rattle.records.specs.Refusal.{Verdict}
 use Rattle.std.specs.Prelude.{ℕ, Bool, false, not, List, eqb, ℤ, pos, neg_ℤ, take, replicate}
 use Rattle.words.specs.Address.{stored}
 use Rattle.records.specs.Payload.{empty}
 use Rattle.records.specs.declared.payload.Payload.{Payload}
-use Rattle.records.specs.declared.refusal.Verdict.{Verdict}
 use Rattle.memory.specs.Config.{no_config, cpus_max}
 use Rattle.memory.specs.Memory.{slot_count}
 use Rattle.memory.specs.declared.config.Config.{Config}

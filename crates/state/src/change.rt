@@ -6,7 +6,6 @@ ghost use Rattle.state.specs.State.{with_result, with_status};
 
 use super::find;
 use super::state::State;
-use words::bytes::Found;
 
 // The last result of the payload at place `i` of the list, by its magnitude.
 pub fn set_result(state: State, i: usize, res: u32) -> State
@@ -37,7 +36,7 @@ pub fn set_result_in(state: State, slot: u32, res: u32) -> State
     requires { state.count ≤ slot_count }
     ensures { result ≡ changed_in (with_result res) state slot }
 {
-    let Found::At(i) = find::with_slot(state, slot) else {
+    let Some(i) = find::with_slot(state, slot) else {
         return state;
     };
     set_result(state, i, res)

@@ -1,11 +1,11 @@
 // The state: start-up's numbers, the payloads, the applied ones as a stack, and the job.
-ghost use Rattle.std.specs.Prelude.{◌≡◌};
+ghost use Rattle.std.specs.Prelude.{◌≡◌, Err};
 ghost use Rattle.records.specs.Verdict.{refusal};
 ghost use Rattle.state.specs.State.{called, no_job, state_with};
 
 use memory::config::Config;
 use records::payload::Payload;
-use records::refusal::{Place, Reason, Verdict};
+use records::refusal::{self, Place, Reason, Refusal};
 
 // The one job: action (0 where there is none), its payload's slot, the CPUs held, the ticks left, the work steps done.
 #[derive(Clone, Copy)]
@@ -32,7 +32,7 @@ pub struct State {
 // What a call answers, and the state after it.
 #[derive(Clone, Copy)]
 pub struct Called {
-    pub verdict: Verdict,
+    pub verdict: Result<(), Refusal>,
     pub state: State,
 }
 
@@ -85,9 +85,9 @@ impl State {
 impl Called {
     // A call that is refused, nowhere: the state as it came.
     pub fn refused(state: State, reason: Reason) -> Self
-        ensures { result ≡ called (Verdict.Refuse (refusal reason Place.Nowhere)) state }
+        ensures { result ≡ called (Err (refusal reason Place.Nowhere)) state }
     {
-        let verdict = Verdict::refused(reason, Place::Nowhere);
+        let verdict = refusal::refused(reason, Place::Nowhere);
         Called { verdict, state }
     }
 }

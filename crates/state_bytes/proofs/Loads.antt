@@ -2,11 +2,15 @@
 -- rows of one width read into an array.
 use Prim.Native.Nat.{ℕ, zero, suc, ◌+◌, ◌*◌, ◌≤◌, ◌<◌}
 use mathlib.Core.Path.{◌≡◌, refl, sym, ap, ◌∙◌}
-use mathlib.Core.List.{List, ◌∷◌, map}
+use mathlib.Core.Bool.{Bool, true, ◌&&◌}
+use mathlib.Core.List.{List, [], ◌∷◌, map}
 use native.Mathlib.Nat.{add-zero}
+use native.Mathlib.Numerals.{add-one}
 use native.Mathlib.Omega.{arith}
 use lib.ListN.{length, get_or, replicate, length-replicate}
 use lib.Seq.{drop-cons}
+use Rattle.std.specs.List.{list_all, range_with_len}
+use Rattle.words.specs.Find.{every}
 use Rattle.words.specs.Scan.{scan, each, filled}
 use Rattle.words.specs.Splice.{part, splice}
 use Rattle.words.proofs.Scan.{filled-whole}
@@ -21,6 +25,18 @@ copied-part b at n z h = splice-whole (replicate n z) (part b at n) (length_part
 pub part-more : (b : List ℕ) (at n : ℕ) → at < length b → part b at (suc n) ≡ get_or b at 0 ∷ part b (suc at) n
 unfolding part
 part-more b at n h = rw (drop-cons b at 0 h)
+
+-- a test of every byte, as std says it of an iterator's `all`
+pub every-list_all : (test : ℕ → Bool) (s : List ℕ) → every test s ≡ list_all test s
+unfolding every
+every-list_all test [] = refl
+every-list_all test (b ∷ s) = rw (every-list_all test s)
+
+-- a test of every number
+pub below-list_all : (test : ℕ → Bool) (i n : ℕ) → scan (λ j rest. test j && rest) true i n ≡ list_all test (range_with_len i n)
+unfolding scan
+below-list_all test i zero = refl
+below-list_all test i (suc n) = rw (add-one i, below-list_all test (suc i) n)
 
 -- the bytes of a part, each through f
 each-of-part :

@@ -39,10 +39,8 @@ pub(crate) fn load_edits(b: &[u8], at: usize) -> [Edit; Payload::RECORDS_MAX]
 {
     let none = Edit::none();
     let mut edits = [none; Payload::RECORDS_MAX];
-    let mut i = 0;
-    while i < Payload::RECORDS_MAX {
-        edits[i] = load_edit(b, at + layout::EDIT_SIZE * i);
-        i += 1;
+    for (i, edit) in edits.iter_mut().enumerate() {
+        *edit = load_edit(b, at + layout::EDIT_SIZE * i);
     }
     edits
 }
@@ -64,12 +62,5 @@ pub(crate) fn edits_ok(b: &[u8], at: usize) -> bool
     requires { at + edit_size * records_max ≤ length b.now }
     ensures { result ≡ edits_ok b.now at }
 {
-    let mut i = 0;
-    while i < Payload::RECORDS_MAX {
-        if !kind_ok(b, at + layout::EDIT_SIZE * i) {
-            return false;
-        }
-        i += 1;
-    }
-    true
+    (0..Payload::RECORDS_MAX).all(|i| kind_ok(b, at + layout::EDIT_SIZE * i))
 }

@@ -29,10 +29,8 @@ fn load_held(b: &[u8]) -> [bool; Config::CPUS_MAX]
     ensures { result ≡ held_at b.now held_place }
 {
     let mut held = [false; Config::CPUS_MAX];
-    let mut i = 0;
-    while i < Config::CPUS_MAX {
-        held[i] = b[layout::HELD_AT + i] == 1;
-        i += 1;
+    for (i, flag) in held.iter_mut().enumerate() {
+        *flag = b[layout::HELD_AT + i] == 1;
     }
     held
 }
@@ -42,14 +40,8 @@ pub(crate) fn flags_ok(b: &[u8]) -> bool
     requires { length b.now ≡ records_size }
     ensures { result ≡ flags_ok b.now }
 {
-    let mut i = 0;
-    while i < Config::CPUS_MAX {
-        if 1 < b[layout::HELD_AT + i] {
-            return false;
-        }
-        i += 1;
-    }
-    true
+    let end = layout::HELD_AT + Config::CPUS_MAX;
+    b[layout::HELD_AT..end].iter().all(|flag| *flag <= 1)
 }
 
 pub(crate) fn load_job(b: &[u8]) -> Job
@@ -71,10 +63,8 @@ pub(crate) fn load_stack(b: &[u8]) -> [u32; Config::SLOTS]
     ensures { result ≡ stack_at b.now stack_place }
 {
     let mut stack = [0u32; Config::SLOTS];
-    let mut i = 0;
-    while i < Config::SLOTS {
-        stack[i] = numbers::load4(b, layout::STACK_AT + 4 * i);
-        i += 1;
+    for (i, slot) in stack.iter_mut().enumerate() {
+        *slot = numbers::load4(b, layout::STACK_AT + 4 * i);
     }
     stack
 }

@@ -64,10 +64,8 @@ pub(crate) fn load_payloads(b: &[u8]) -> [Payload; Config::SLOTS]
 {
     let none = Payload::empty();
     let mut payloads = [none; Config::SLOTS];
-    let mut i = 0;
-    while i < Config::SLOTS {
-        payloads[i] = load_payload(b, layout::PAYLOADS_AT + layout::PAYLOAD_SIZE * i);
-        i += 1;
+    for (i, payload) in payloads.iter_mut().enumerate() {
+        *payload = load_payload(b, layout::PAYLOADS_AT + layout::PAYLOAD_SIZE * i);
     }
     payloads
 }
@@ -77,15 +75,10 @@ pub(crate) fn kinds_ok(b: &[u8]) -> bool
     requires { length b.now ≡ records_size }
     ensures { result ≡ kinds_ok b.now }
 {
-    let mut i = 0;
-    while i < Config::SLOTS {
-        if !edits::edits_ok(
+    (0..Config::SLOTS).all(|i| {
+        edits::edits_ok(
             b,
             layout::PAYLOADS_AT + layout::PAYLOAD_SIZE * i + layout::EDITS_AT,
-        ) {
-            return false;
-        }
-        i += 1;
-    }
-    true
+        )
+    })
 }

@@ -46,10 +46,7 @@ pub(crate) fn store_edits(b: &mut [u8], at: usize, edits: [Edit; Payload::RECORD
     ensures b_after { b.new ≡ splice b.old at (chained (map stored_edit edits)) }
     ensures edits_len { (length edits ≡ records_max) × (edits_at (chained (map stored_edit edits)) 0 ≡ edits) }
 {
-    let mut i = 0;
-    while i < Payload::RECORDS_MAX {
-        let edit = edits[i];
-        store_edit(b, at + layout::EDIT_SIZE * i, edit);
-        i += 1;
+    for (i, edit) in edits.iter().enumerate() {
+        store_edit(b, at + layout::EDIT_SIZE * i, *edit);
     }
 }

@@ -51,10 +51,8 @@ fn store_held(b: &mut [u8], held: [bool; Config::CPUS_MAX])
     ensures b_after { b.new ≡ splice b.old held_place (map flag_byte held) }
     ensures held_len { length held ≡ cpus_max }
 {
-    let mut i = 0;
-    while i < Config::CPUS_MAX {
-        b[layout::HELD_AT + i] = flag_byte(held[i]);
-        i += 1;
+    for (i, flag) in held.iter().enumerate() {
+        b[layout::HELD_AT + i] = flag_byte(*flag);
     }
 }
 
@@ -76,10 +74,7 @@ pub(crate) fn store_stack(b: &mut [u8], stack: [u32; Config::SLOTS])
     ensures b_after { b.new ≡ splice b.old stack_place (chained (map (le_bytes 4) stack)) }
     ensures stack_len { (length stack ≡ slot_count) × (stack_at (chained (map (le_bytes 4) stack)) 0 ≡ stack) }
 {
-    let mut i = 0;
-    while i < Config::SLOTS {
-        let slot = stack[i];
-        numbers::store4(b, layout::STACK_AT + 4 * i, slot);
-        i += 1;
+    for (i, slot) in stack.iter().enumerate() {
+        numbers::store4(b, layout::STACK_AT + 4 * i, *slot);
     }
 }

@@ -68,10 +68,7 @@ pub(crate) fn store_payloads(b: &mut [u8], payloads: [Payload; Config::SLOTS])
     ensures b_after { b.new ≡ splice b.old payloads_place (chained (map payload_bytes payloads)) }
     ensures payloads_len { (length payloads ≡ slot_count) × (payloads_at (chained (map payload_bytes payloads)) 0 ≡ payloads) }
 {
-    let mut i = 0;
-    while i < Config::SLOTS {
-        let payload = payloads[i];
-        store_payload(b, layout::PAYLOADS_AT + layout::PAYLOAD_SIZE * i, payload);
-        i += 1;
+    for (i, payload) in payloads.iter().enumerate() {
+        store_payload(b, layout::PAYLOADS_AT + layout::PAYLOAD_SIZE * i, *payload);
     }
 }

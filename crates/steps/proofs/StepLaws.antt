@@ -20,6 +20,8 @@ use Rattle.state.specs.declared.state.State.{State}
 use Rattle.state.specs.declared.steps.Step.{Step}
 use Rattle.state.proofs.StepLaws.{length-layings, length-removals, length-removals-none}
 use Rattle.state.proofs.Whole.{Whole}
+use Rattle.outlines.specs.Outline.{Outlines}
+use Rattle.outlines.specs.declared.outline.Outline.{Outline}
 use Rattle.ranges.proofs.Laws.{PayloadInRange, JobInRange, InRange, taken-in-range}
 use Rattle.steps.specs.Next.{no_step, step_now}
 
@@ -146,6 +148,28 @@ module _ (s : State) where
       (s.job.steps < length (stacked_in s s.depth)) × (get_or (stacked_in s s.depth) s.job.steps no_step ≡ step_now s)
   unfolding step_now
   replacing-next all h = (rw all at h, sym (of-first (removing s) (laying s) s.job.steps h ∙ rw all))
+
+-- ---- taking off payloads of the stack, one after the other
+
+-- the next step is removal k of the first i payloads
+abbrev pub Left : State → ℕ → ℕ → Type 0
+Left s i k = (k < length (stacked_in s i)) × (get_or (stacked_in s i) k no_step ≡ step_now s)
+
+-- a state with this outline whose job is to take off more of the stack
+abbrev pub Removes : Outline → State → Type 0
+Removes o s = Outlines o s × (removing s ≡ removals_in s (reverse (stack_of s))) × (s.job.steps < length (removing s))
+
+-- the newest of i + 1 payloads, of n records
+module _ (s : State) (i k n : ℕ) (deep : i < length s.stack) (count : n ≡ (stacked s i).edit_count) (left : Left s (suc i) k) where
+  pub of-newest : k < n → step_for false (stacked s i) (n - 1 - k) ≡ step_now s
+  of-newest h = rw count (newest-step s i deep k (omega (arith, count)) ∙ left.1)
+
+  pub of-older : n ≤ k → Left s i (k - n)
+  of-older h =
+      rw count (
+        omega (arith, left.0, count, length-stacked s i deep),
+        sym (older-step s i deep k (omega (arith, count))) ∙ left.1,
+      )
 
 -- ---- how many steps, and of what records, in a state whose numbers are in their ranges
 

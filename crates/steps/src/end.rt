@@ -9,7 +9,6 @@ ghost use Rattle.steps.specs.Next.{all_checked, finished, statuses_set, stack_se
 use outlines::{counts, outline};
 use state::state::{Job, State};
 use state::{change, find};
-use words::bytes::Found;
 
 // Every payload has status 1.
 fn all_checked(state: State) -> State
@@ -17,10 +16,8 @@ fn all_checked(state: State) -> State
     ensures { result ≡ all_checked state }
 {
     let mut next = state;
-    let mut i = 0;
-    while i < state.count {
+    for i in 0..state.count {
         next = change::set_status(next, i, State::CHECKED);
-        i += 1;
     }
     next
 }
@@ -40,7 +37,7 @@ fn finish(state: State, slot: u32, action: u32) -> State
     requires { state.count ≤ slot_count }
     ensures { result ≡ changed_in (finished action) state slot }
 {
-    let Found::At(i) = find::with_slot(state, slot) else {
+    let Some(i) = find::with_slot(state, slot) else {
         return state;
     };
     let status = status_after(action);

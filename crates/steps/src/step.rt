@@ -14,7 +14,6 @@ use outlines::{counts, outline};
 use records::payload::Payload;
 use state::state::{Job, State};
 use state::steps::Step;
-use words::bytes::Found;
 
 // The record whose edit comes next: laid, or taken off; the place in the list of its payload, and its number.
 #[derive(Clone, Copy)]
@@ -30,7 +29,7 @@ fn choice_in(outline: Outline, lays: bool, slot: u32, number: usize) -> Choice
     ensures { (s : State) → Outlines outline s → number < (payload_in s slot).edit_count
         → step_for lays (payload_in s slot) number ≡ step_now s → Chosen result s }
 {
-    let Found::At(place) = outline::with_slot(outline, slot) else {
+    let Some(place) = outline::with_slot(outline, slot) else {
         return Choice {
             lays,
             place: 0,
@@ -51,9 +50,7 @@ fn applied_choice(outline: Outline) -> Choice
         → s.job.steps < length (removing s) → Chosen result s }
 {
     let mut rest = outline.steps;
-    let mut i = outline.depth;
-    while 0 < i {
-        i -= 1;
+    for i in (0..outline.depth).rev() {
         let slot = outline.stack[i];
         let count = outline::edits_in(outline, slot);
         if rest < count {

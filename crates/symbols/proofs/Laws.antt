@@ -1,6 +1,7 @@
 -- Laws of the symbol list: what reading an entry says, a turn and the end of the two walks over the entries; and of a valid list
 -- `lookup-stays`: stopping at the first name that is not smaller finds what going on would find, and `lookup-listed`: a name is found
 -- exactly where an entry has it, with that entry's address.
+use Rattle.std.proofs.Common.{Some, None, Option, ℕ}
 use Prim.Native.Nat.{ℕ, zero, suc, ◌+◌, ◌-◌, ◌≤◌, ◌<◌}
 use mathlib.Core.Path.{◌≡◌, refl, sym, ap, ◌∙◌}
 use mathlib.Core.Bool.{Bool, true, false, cond, ◌&&◌, and-false, and-eq-true_iff, false≢true}
@@ -14,10 +15,6 @@ use lib.ListN.{length, take, drop}
 use Rattle.words.specs.Splice.{part}
 use Rattle.words.specs.Order.{equal, less}
 use Rattle.words.proofs.Order.{equal-same, equal-true, less-irreflexive, less-transitive}
-use Rattle.symbols.specs.declared.Entry.{Entry}
-use Rattle.symbols.specs.declared.Entry.TheVariants.{Whole, Broken}
-use Rattle.symbols.specs.declared.Found.{Found}
-use Rattle.symbols.specs.declared.Found.TheVariants.{Address, Nothing}
 use Rattle.symbols.specs.declared.Search.{Search}
 use Rattle.symbols.specs.SymbolList.{
   address_at,
@@ -79,7 +76,7 @@ module _ (s : List ℕ) (at : ℕ) where
   name-read n e = rw (add-sub_cancel_left (at + 9) n, e)
 
 -- the answer that the test does not hold
-pub read-broken : (t : Bool) (s : List ℕ) (at : ℕ) {r : Entry} → r ≡ entry_if t s at → r ≡ Broken → t ≡ false
+pub read-broken : (t : Bool) (s : List ℕ) (at : ℕ) {r : Option ℕ} → r ≡ entry_if t s at → r ≡ None → t ≡ false
 unfolding entry_if
 read-broken true s at e h = cc
 read-broken false s at e h = refl
@@ -91,18 +88,18 @@ pub record Read (t : Bool) (s : List ℕ) (at n : ℕ) : Type 0 where
   pub inside : at + 9 + n ≤ length s
   pub name : take (at + 9 + n - (at + 9)) (drop (at + 9) s) ≡ name_at s at
 
-module _ (s : List ℕ) (at : ℕ) {r : Entry} {n : ℕ} where
-  told : (t : Bool) → r ≡ entry_if t s at → r ≡ Whole n → (t ≡ true) × (name_length_at s at ≡ n)
+module _ (s : List ℕ) (at : ℕ) {r : Option ℕ} {n : ℕ} where
+  told : (t : Bool) → r ≡ entry_if t s at → r ≡ Some n → (t ≡ true) × (name_length_at s at ≡ n)
   unfolding entry_if
   told true e h = (refl, cc)
   told false e h = (cc, cc)
 
-  pub read_whole : r ≡ entry_if (whole_at s at) s at → r ≡ Whole n → Read (whole_at s at) s at n
+  pub read_whole : r ≡ entry_if (whole_at s at) s at → r ≡ Some n → Read (whole_at s at) s at n
   read_whole e h =
       let a = told (whole_at s at) e h in
       record { holds = a.0; long = a.1; inside = omega (arith, whole-bounds s at a.0); name = name-read s at n a.1 }
 
-  pub read-entry : r ≡ entry_if (entry_at s at) s at → r ≡ Whole n → Read (entry_at s at) s at n
+  pub read-entry : r ≡ entry_if (entry_at s at) s at → r ≡ Some n → Read (entry_at s at) s at n
   read-entry e h =
       let a = told (entry_at s at) e h in
       record {
@@ -131,7 +128,7 @@ module _ (s : List ℕ) (at i n : ℕ) where
       rw none
 
 -- what a search answers that has compared i entries and is at the entry that begins at at, of n in all
-abbrev pub answer : Found → ℕ → Search
+abbrev pub answer : Option ℕ → ℕ → Search
 answer f k = record { found = f; compared = k }
 
 abbrev pub after : List ℕ → List ℕ → ℕ → ℕ → ℕ → Search
@@ -144,14 +141,14 @@ module _ (s name : List ℕ) (n : ℕ) where
       let all : n - 0 ≡ n = omega arith in
       rw all (ap (answer _) (omega arith))
 
-  pub search-end : (i at : ℕ) → n ≤ i → after s name n i at ≡ answer Nothing i
+  pub search-end : (i at : ℕ) → i ≡ n → after s name n i at ≡ answer None n
   unfolding lookup_from compared_from
-  search-end i at h =
+  search-end i at all =
       let none : n - i ≡ 0 = omega arith in
       rw none (ap (answer _) (omega arith))
 
   module _ (i at : ℕ) (more : i < n) where
-    pub search-broken : whole_at s at ≡ false → after s name n i at ≡ answer Nothing i
+    pub search-broken : whole_at s at ≡ false → after s name n i at ≡ answer None i
     unfolding lookup_from compared_from
     search-broken broken =
         let left : n - i ≡ suc (n - (i + 1)) = omega arith in
@@ -179,7 +176,7 @@ search-found s name e = ap (λ (r : Search). r.found) e
 
 -- ---- the first entry that has the name is the one entry that has it
 
-nothing : {a : ℕ} → Nothing ≡ Address a → ⊥
+nothing : {a : ℕ} → None ≡ Some a → ⊥
 nothing h = let z : ◌≡◌ {A = ℕ} 0 1 = cc in omega arith
 
 -- what is known where the first of several entries passes
@@ -204,9 +201,9 @@ differs a b h = fails _ λ e. false≢true (sym (less-irreflexive b) ∙ rw (equ
 module _ (s name : List ℕ) where
   -- the first of several entries, or the rest, has what was found
   step-found :
-      {a : ℕ} (n at : ℕ) (t e : Bool) (rest : Found) → equal (name_at s at) name ≡ e →
-      (rest ≡ Address a → Listed s n (next_at s at) name a) →
-      cond t (cond e (Address (address_at s at)) rest) Nothing ≡ Address a → Listed s (suc n) at name a
+      {a : ℕ} (n at : ℕ) (t e : Bool) (rest : Option ℕ) → equal (name_at s at) name ≡ e →
+      (rest ≡ Some a → Listed s n (next_at s at) name a) →
+      cond t (cond e (Some (address_at s at)) rest) None ≡ Some a → Listed s (suc n) at name a
   unfolding entry_start
   step-found n at false e rest same next h = absurd (nothing h)
   step-found n at true true rest same next h =
@@ -215,7 +212,7 @@ module _ (s name : List ℕ) where
       let l = next h in
       record { number = suc l.number; counted = omega arith; named = l.named; addressed = l.addressed }
 
-  found-listed : {a : ℕ} (n at : ℕ) → first_named_from s name n at ≡ Address a → Listed s n at name a
+  found-listed : {a : ℕ} (n at : ℕ) → first_named_from s name n at ≡ Some a → Listed s n at name a
   unfolding first_named_from
   found-listed zero at h = absurd (nothing h)
   found-listed (suc n) at h =
@@ -235,7 +232,7 @@ module _ (s name : List ℕ) where
   -- the name of one of the entries is found, and no earlier entry is taken for it
   listed_found :
       (n at : ℕ) (last : List ℕ) (k : ℕ) → entries_from s n at last ≡ true → k < n → name_at s (entry_start s at k) ≡ name →
-      first_named_from s name n at ≡ Address (address_at s (entry_start s at k))
+      first_named_from s name n at ≡ Some (address_at s (entry_start s at k))
   unfolding first_named_from entry_start
   listed_found zero at last k h g e = absurd (omega arith)
   listed_found (suc n) at last zero h g e = rw ((rise s at last n h).0, e, equal-same name)
@@ -248,7 +245,7 @@ module _ (s name : List ℕ) where
 
   -- no entry has this name, where the name before them is not smaller
   none_named :
-      (n at : ℕ) (last : List ℕ) → entries_from s n at last ≡ true → less last name ≡ false → first_named_from s name n at ≡ Nothing
+      (n at : ℕ) (last : List ℕ) → entries_from s n at last ≡ true → less last name ≡ false → first_named_from s name n at ≡ None
   unfolding first_named_from
   none_named zero at last h g = refl
   none_named (suc n) at last h g =
@@ -261,9 +258,9 @@ module _ (s name : List ℕ) where
 
   -- one entry: the name is smaller, or it is not and decides
   step_stays :
-      (n at : ℕ) (t e : Bool) (rest : Found) → less (name_at s at) name ≡ t → equal (name_at s at) name ≡ e →
-      (t ≡ false → first_named_from s name n (next_at s at) ≡ Nothing) → rest ≡ first_named_from s name n (next_at s at) →
-      cond t rest (found_if e s at) ≡ cond e (Address (address_at s at)) (first_named_from s name n (next_at s at))
+      (n at : ℕ) (t e : Bool) (rest : Option ℕ) → less (name_at s at) name ≡ t → equal (name_at s at) name ≡ e →
+      (t ≡ false → first_named_from s name n (next_at s at) ≡ None) → rest ≡ first_named_from s name n (next_at s at) →
+      cond t rest (found_if e s at) ≡ cond e (Some (address_at s at)) (first_named_from s name n (next_at s at))
   step_stays n at true true rest l q none same = absurd (false≢true (sym (differs _ _ l) ∙ q))
   step_stays n at true false rest l q none same = same
   step_stays n at false true rest l q none same = refl
@@ -285,14 +282,14 @@ module _ (s name : List ℕ) where
       let v = ends (leb 7 (length s)) _ _ (entries_from s (list_count s) 7 []) h in
       rw v.0 (stays (list_count s) 7 [] v.1)
 
-  first-listed : (a : ℕ) → valid s ≡ true → (first_named s name ≡ Address a) ↔ Listed s (list_count s) 7 name a
+  first-listed : (a : ℕ) → valid s ≡ true → (first_named s name ≡ Some a) ↔ Listed s (list_count s) 7 name a
   unfolding valid first_named
   first-listed a h =
       let v = ends (leb 7 (length s)) _ _ (entries_from s (list_count s) 7 []) h in (
         λ found. found-listed (list_count s) 7 (rw v.0 at found),
-        λ l. rw v.0 (listed_found (list_count s) 7 [] l.number v.1 l.counted l.named ∙ ap Address l.addressed),
+        λ l. rw v.0 (listed_found (list_count s) 7 [] l.number v.1 l.counted l.named ∙ ap Some l.addressed),
       )
 
   -- in a valid list, lookup answers an address exactly where an entry has this name and this address
-  pub lookup-listed : (a : ℕ) → valid s ≡ true → (lookup s name ≡ Address a) ↔ Listed s (list_count s) 7 name a
+  pub lookup-listed : (a : ℕ) → valid s ≡ true → (lookup s name ≡ Some a) ↔ Listed s (list_count s) 7 name a
   lookup-listed a h = rw (lookup-stays h) (first-listed a h)

@@ -1,13 +1,9 @@
 -- Document 01, "The symbol list". The document's house format is called the symbol list format here.
-use Rattle.std.specs.Prelude.{ℕ, zero, suc, ◌+◌, ◌<◌, ◌≡◌, Bool, cond, not, ◌&&◌, List, [], leb, eqb, length, get_or}
+use Rattle.std.specs.Prelude.{ℕ, zero, suc, ◌+◌, ◌<◌, ◌≡◌, Bool, cond, not, ◌&&◌, List, [], leb, eqb, length, get_or, Some, None, Option}
 use Rattle.words.specs.Splice.{part}
 use Rattle.words.specs.Number.{be_at}
 use Rattle.words.specs.Name.{has_zero}
 use Rattle.words.specs.Order.{equal, less}
-use Rattle.symbols.specs.declared.Entry.{Entry}
-use Rattle.symbols.specs.declared.Entry.TheVariants.{Whole, Broken}
-use Rattle.symbols.specs.declared.Found.{Found}
-use Rattle.symbols.specs.declared.Found.TheVariants.{Address, Nothing}
 use Rattle.symbols.specs.declared.Search.{Search}
 
 -- "then per entry an 8-byte address, a 1-byte name length (1 to 127), the name": the entry of the list s that begins at position at
@@ -37,8 +33,8 @@ unfoldable pub entry_at : List ℕ → ℕ → Bool
 entry_at s at = whole_at s at && leb 1 (name_length_at s at) && leb (name_length_at s at) listed_name_max && not (has_zero (name_at s at))
 
 -- what reading an entry answers: its name's length, where the test holds
-unfoldable pub entry_if : Bool → List ℕ → ℕ → Entry
-entry_if holds s at = cond holds (Whole (name_length_at s at)) Broken
+unfoldable pub entry_if : Bool → List ℕ → ℕ → Option ℕ
+entry_if holds s at = cond holds (Some (name_length_at s at)) None
 
 -- "Names strictly rise, compared bytewise; nothing follows the last": n entries from at on, where the name before them is last.
 -- The first entry has the empty name before it, which is less than every name.
@@ -59,17 +55,17 @@ valid s =
     && entries_from s (list_count s) 7 []
 
 -- the entry's address, where the test holds
-abbrev pub found_if : Bool → List ℕ → ℕ → Found
-found_if holds s at = cond holds (Address (address_at s at)) Nothing
+abbrev pub found_if : Bool → List ℕ → ℕ → Option ℕ
+found_if holds s at = cond holds (Some (address_at s at)) None
 
 -- W3: "the list is in order, so stop at the first greater name". Of n whole entries from at on the first that is not smaller decides:
 -- it has this name, or none has.
-unfoldable pub lookup_from : List ℕ → List ℕ → ℕ → ℕ → Found
-lookup_from s name zero at = Nothing
+unfoldable pub lookup_from : List ℕ → List ℕ → ℕ → ℕ → Option ℕ
+lookup_from s name zero at = None
 lookup_from s name (suc n) at =
     cond (whole_at s at)
     (cond (less (name_at s at) name) (lookup_from s name n (next_at s at)) (found_if (equal (name_at s at) name) s at))
-    Nothing
+    None
 
 -- W3: "Lookup also counts the entries it compares, exactly those up to the first not smaller", and with it; all where all are smaller
 unfoldable pub compared_from : List ℕ → List ℕ → ℕ → ℕ → ℕ
@@ -81,8 +77,8 @@ compared_from s name (suc n) at =
 
 -- "looked up by name in the list": its address, or it isn't there. Of bytes that are no valid list, the whole entries at the front are
 -- searched by the same rule.
-unfoldable pub lookup : List ℕ → List ℕ → Found
-lookup s name = cond (leb 7 (length s)) (lookup_from s name (list_count s) 7) Nothing
+unfoldable pub lookup : List ℕ → List ℕ → Option ℕ
+lookup s name = cond (leb 7 (length s)) (lookup_from s name (list_count s) 7) None
 
 -- how many entries a lookup in the list compares: none in an empty one
 unfoldable pub compared_entries : List ℕ → List ℕ → ℕ
@@ -98,15 +94,15 @@ find_of s name = record { found = lookup s name; compared = compared_entries s n
 -- ---- what the laws `lookup-stays` and `lookup-listed` compare lookup with
 
 -- lookup without W3, which goes on past greater names: the address of the first of n whole entries from at on that has this name
-unfoldable pub first_named_from : List ℕ → List ℕ → ℕ → ℕ → Found
-first_named_from s name zero at = Nothing
+unfoldable pub first_named_from : List ℕ → List ℕ → ℕ → ℕ → Option ℕ
+first_named_from s name zero at = None
 first_named_from s name (suc n) at =
     cond (whole_at s at)
-    (cond (equal (name_at s at) name) (Address (address_at s at)) (first_named_from s name n (next_at s at)))
-    Nothing
+    (cond (equal (name_at s at) name) (Some (address_at s at)) (first_named_from s name n (next_at s at)))
+    None
 
-unfoldable pub first_named : List ℕ → List ℕ → Found
-first_named s name = cond (leb 7 (length s)) (first_named_from s name (list_count s) 7) Nothing
+unfoldable pub first_named : List ℕ → List ℕ → Option ℕ
+first_named s name = cond (leb 7 (length s)) (first_named_from s name (list_count s) 7) None
 
 -- where the entry that stands k entries after the one at at begins
 unfoldable pub entry_start : List ℕ → ℕ → ℕ → ℕ

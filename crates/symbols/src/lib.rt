@@ -7,79 +7,64 @@ ghost use Rattle.records.specs.declared.refusal.Place.TheVariants.{Nowhere};
 ghost use Rattle.words.specs.Order.{is_less, is_same, less};
 ghost use Rattle.symbols.specs.SymbolList.{whole_at, entry_at, entry_if, entries_from, found_if, find_from, valid, find_of};
 
-use records::refusal::{Place, Reason, Verdict};
+use records::refusal::{self, Place, Reason, Refusal};
+use std::cmp::Ordering;
 use words::bytes;
 
-// The address of a name, or that the list does not have it.
-#[derive(Clone, Copy)]
-pub enum Found {
-    Address(u64),
-    Nothing,
-}
-
-// What was found, and how many entries were compared with the name for it.
+// The address of a name, where the list has it, and how many entries were compared with the name for it.
 #[derive(Clone, Copy)]
 pub struct Search {
-    pub found: Found,
+    pub found: Option<u64>,
     pub compared: usize,
 }
 
 // The longest name of a list.
 pub const NAME_MAX: usize = 127;
 
-// An entry with a name of this many bytes, or no entry.
-#[derive(Clone, Copy)]
-enum Entry {
-    Whole(usize),
-    Broken,
-}
-
-// The entry at `at`, where its bytes are all there.
-fn whole_at(list: &[u8], at: usize) -> Entry
+// How many bytes the name of the entry at `at` has, where the entry's bytes are all there.
+fn whole_at(list: &[u8], at: usize) -> Option<usize>
     ensures { result ≡ entry_if (whole_at list.now at) list.now at }
 {
     if list.len() < 9 {
-        return Entry::Broken;
+        return None;
     }
     if list.len() - 9 < at {
-        return Entry::Broken;
+        return None;
     }
     let name_length = list[at + 8] as usize;
     if list.len() - 9 - at < name_length {
-        return Entry::Broken;
+        return None;
     }
-    Entry::Whole(name_length)
+    Some(name_length)
 }
 
-// The entry at `at`, where its bytes are all there and its name is one.
-fn entry_at(list: &[u8], at: usize) -> Entry
+// The same, where its name is one too.
+fn entry_at(list: &[u8], at: usize) -> Option<usize>
     ensures { result ≡ entry_if (entry_at list.now at) list.now at }
 {
-    let Entry::Whole(name_length) = whole_at(list, at) else {
-        return Entry::Broken;
-    };
+    let name_length = whole_at(list, at)?;
     if name_length < 1 {
-        return Entry::Broken;
+        return None;
     }
     if NAME_MAX < name_length {
-        return Entry::Broken;
+        return None;
     }
     let start = at + 9;
     let end = start + name_length;
-    if let bytes::Found::At(_) = bytes::find_zero(&list[start..end], 0) {
-        return Entry::Broken;
+    if bytes::find_zero(&list[start..end], 0).is_some() {
+        return None;
     }
-    Entry::Whole(name_length)
+    Some(name_length)
 }
 
 // Whether a name that stands so to another is smaller.
-fn smaller(order: bytes::Order) -> bool
+fn smaller(order: Ordering) -> bool
     ensures { result ≡ is_less order }
 {
     match order {
-        bytes::Order::Less => true,
-        bytes::Order::Same => false,
-        bytes::Order::Greater => false,
+        Ordering::Less => true,
+        Ordering::Equal => false,
+        Ordering::Greater => false,
     }
 }
 
@@ -99,9 +84,8 @@ fn entries_rise(list: &[u8], count: usize) -> bool
     let mut last_start = 0;
     let mut last_end = 0;
     let mut at = 7;
-    let mut i = 0;
-    while i < count {
-        let Entry::Whole(name_length) = entry_at(list, at) else {
+    for _ in 0..count {
+        let Some(name_length) = entry_at(list, at) else {
             return false;
         };
         let start = at + 9;
@@ -112,7 +96,6 @@ fn entries_rise(list: &[u8], count: usize) -> bool
         last_start = start;
         last_end = end;
         at = end;
-        i += 1;
     }
     at == list.len()
 }
@@ -135,13 +118,13 @@ pub fn is_valid(list: &[u8]) -> bool
 }
 
 // The same as a verdict: a list that is not valid is refused with 22, nowhere.
-pub fn check(list: &[u8]) -> Verdict
+pub fn check(list: &[u8]) -> Result<(), Refusal>
     ensures { result ≡ must (valid list.now) 22 Nowhere }
 {
     if is_valid(list) {
-        return Verdict::Pass;
+        return Ok(());
     }
-    Verdict::refused(Reason::Invalid, Place::Nowhere)
+    refusal::refused(Reason::Invalid, Place::Nowhere)
 }
 
 // The address that the list gives to `name`, searched up to the first entry that is not smaller.
@@ -150,7 +133,7 @@ pub fn find(list: &[u8], name: &[u8]) -> Search
 {
     if list.len() < 7 {
         return Search {
-            found: Found::Nothing,
+            found: None,
             compared: 0,
         };
     }
@@ -163,12 +146,11 @@ fn find_from(list: &[u8], name: &[u8], count: usize) -> Search
     ensures { result ≡ find_from list.now name.now count 7 }
 {
     let mut at = 7;
-    let mut compared = 0;
-    while compared < count {
-        let Entry::Whole(name_length) = whole_at(list, at) else {
+    for compared in 0..count {
+        let Some(name_length) = whole_at(list, at) else {
             return Search {
-                found: Found::Nothing,
-                compared: compared,
+                found: None,
+                compared,
             };
         };
         let start = at + 9;
@@ -182,22 +164,21 @@ fn find_from(list: &[u8], name: &[u8], count: usize) -> Search
             };
         }
         at = end;
-        compared += 1;
     }
     Search {
-        found: Found::Nothing,
-        compared: compared,
+        found: None,
+        compared: count,
     }
 }
 
 // What the entry at `at` gives, whose name stands so to the name sought: its address, where the two are the same.
-fn found_at(list: &[u8], at: usize, order: bytes::Order) -> Found
+fn found_at(list: &[u8], at: usize, order: Ordering) -> Option<u64>
     requires { at + 8 ≤ length list.now }
     ensures { result ≡ found_if (is_same order) list.now at }
 {
     match order {
-        bytes::Order::Less => Found::Nothing,
-        bytes::Order::Same => Found::Address(words::be::read(list, at, 8)),
-        bytes::Order::Greater => Found::Nothing,
+        Ordering::Less => None,
+        Ordering::Equal => Some(words::be::read(list, at, 8)),
+        Ordering::Greater => None,
     }
 }

@@ -1,5 +1,6 @@
 -- All that `upload` promises follows of the equation: it accepts exactly when all is right, a refusal names a rule that is broken, and bytes of
 -- ignored contents change nothing.
+use Rattle.std.proofs.Common.{Ok, Err}
 use Prim.Native.Nat.{ℕ}
 use mathlib.Core.Path.{◌≡◌, refl, sym, subst⁻¹, ◌∙◌}
 use mathlib.Core.Bool.{Bool, true, false}
@@ -7,13 +8,11 @@ use mathlib.Core.Logic.{◌↔◌, ⊎_elim}
 use mathlib.Core.List.{List}
 use borrow.Author.Tests.{not-false}
 use lib.ListN.{length}
-use Rattle.records.specs.Refusal.{number_of, reason_for}
+use Rattle.records.specs.Refusal.{number_of, reason_for, Verdict}
 use Rattle.records.specs.Verdict.{must, ◌then◌, decide}
 use Rattle.records.specs.declared.refusal.Place.{Place}
 use Rattle.records.specs.declared.refusal.Place.TheVariants.{Nowhere}
 use Rattle.records.specs.declared.refusal.Refusal.{Refusal}
-use Rattle.records.specs.declared.refusal.Verdict.{Verdict}
-use Rattle.records.specs.declared.refusal.Verdict.TheVariants.{Pass, Refuse}
 use Rattle.records.proofs.Checks.{Told, then-pass, decided-verdict}
 use Rattle.state.specs.declared.state.State.{State}
 use Rattle.acceptance.specs.Consulted.{DifferInIgnored}
@@ -34,7 +33,7 @@ module _ (s : State) (l : Lent) (q : Request) where
 
   -- ---- accepted exactly when all is right
 
-  passed : upload_rules s l q ≡ Pass → Acceptable s l q
+  passed : upload_rules s l q ≡ Ok tt → Acceptable s l q
   unfolding upload_rules
   passed pass =
       let stages = then-pass requested (payload_rules aim q.file) pass in
@@ -48,7 +47,7 @@ module _ (s : State) (l : Lent) (q : Request) where
         payload = (exact aim q.file).accepted stages.1;
       }
 
-  passing : Acceptable s l q → upload_rules s l q ≡ Pass
+  passing : Acceptable s l q → upload_rules s l q ≡ Ok tt
   unfolding upload_rules request_rules room_rules
   passing a = rw (a.sizes, a.named, a.listed, a.new, a.free) ((exact aim q.file).kept a.payload)
 
@@ -61,13 +60,13 @@ module _ (s : State) (l : Lent) (q : Request) where
   unfolding upload_of
   answered = decided-verdict _ _ _ told (upload_rules s l q)
 
-  exactly : ((upload_of s l q).answer ≡ Pass) ↔ Acceptable s l q
+  exactly : ((upload_of s l q).answer ≡ Ok tt) ↔ Acceptable s l q
   exactly = (λ pass. passed (sym answered ∙ pass), λ a. answered ∙ passing a)
 
   -- ---- a refusal names a rule that is broken
 
   abbrev Names : Verdict → Type 0
-  Names v = (r : Refusal) → v ≡ Refuse r → BrokenUpload s l q (number_of r.reason) r.place
+  Names v = (r : Refusal) → v ≡ Err r → BrokenUpload s l q (number_of r.reason) r.place
 
   one : (test : Bool) (number : ℕ) (place : Place) → (test ≡ false → BrokenUpload s l q (number_of (reason_for number)) place) → Names (must test number place)
   one true number place broken r e = absurd (pass-refuses e)
@@ -100,9 +99,9 @@ module _ (s : State) (l : Lent) (q : Request) where
         (v w : Verdict) → payload_rules aim q.file ≡ w →
         decide (refused_upload s l) (accepted_upload s l instead) (v then w) ≡ decide (refused_upload s l) (accepted_upload s l q) (v then w)
     unfolding accepted_upload
-    by-verdict (Refuse r) w e = refl
-    by-verdict Pass (Refuse r) e = refl
-    by-verdict Pass Pass e =
+    by-verdict (Err r) w e = refl
+    by-verdict (Ok _) (Err r) e = refl
+    by-verdict (Ok _) (Ok _) e =
         let given = same.given e in
         rw (given.3, given.4, given.2, given.0, given.1)
 

@@ -1,6 +1,8 @@
 -- An upload by what its stages answered.
+use Rattle.records.specs.Refusal.{Verdict}
+use Rattle.std.proofs.Common.{Some, None, Option, Result, Ok, Err}
 use Prim.Native.Nat.{ℕ, ◌≤◌, ◌<◌}
-use mathlib.Core.Path.{◌≡◌, refl, ap, subst⁻¹, ◌∙◌}
+use mathlib.Core.Path.{◌≡◌, refl, sym, ap, ◌∙◌}
 use mathlib.Core.Bool.{true, false, not}
 use mathlib.Core.List.{List}
 use native.Mathlib.Omega.{arith}
@@ -9,22 +11,18 @@ use lib.Dec.{leb}
 use lib.ListN.{length}
 use Rattle.words.specs.Name.{is_found}
 use Rattle.words.specs.Splice.{splice}
-use Rattle.words.specs.declared.bytes.Found.{Found}
-use Rattle.words.specs.declared.bytes.Found.TheVariants.{At, Nothing}
 use Rattle.words.proofs.Tests.{three}
 use Rattle.records.specs.Limits.{name_min, name_max, records_max}
 use Rattle.records.specs.Name.{is_name}
-use Rattle.records.specs.Verdict.{must, ◌then◌, decide}
+use Rattle.records.specs.Verdict.{must, ◌then◌, decide, verdict_of}
 use Rattle.records.specs.declared.refusal.Place.TheVariants.{Nowhere}
 use Rattle.records.specs.declared.refusal.Refusal.{Refusal}
-use Rattle.records.specs.declared.refusal.Verdict.{Verdict}
-use Rattle.records.specs.declared.refusal.Verdict.TheVariants.{Pass, Refuse}
-use Rattle.records.proofs.Checks.{Told, must-pass, then-pass, rules-told, answer-told}
+use Rattle.records.proofs.Checks.{must-pass, then-pass, decided-ok, decided-err}
 use Rattle.symbols.specs.SymbolList.{valid}
 use Rattle.payload.specs.Reading.{read_rules}
 use Rattle.payload.proofs.ReadingLaws.{read-passes}
 use Rattle.memory.specs.Config.{config_ok, host_for}
-use Rattle.memory.specs.Memory.{slot_count, arena_size, id_at, ids_size}
+use Rattle.memory.specs.Memory.{slot_count, slot_at, arena_size, id_at, ids_size}
 use Rattle.memory.specs.declared.config.Config.{Config}
 use Rattle.state.specs.Find.{with_name, free_slot}
 use Rattle.state.specs.State.{called}
@@ -32,11 +30,10 @@ use Rattle.state.specs.declared.state.State.{State}
 use Rattle.state.proofs.Laws.{free-slot}
 use Rattle.state.proofs.Whole.{Whole}
 use Rattle.ranges.proofs.Laws.{in-range}
-use Rattle.acceptance.specs.Stages.{Setting, setting, machine_at, record_count, payload_rules}
-use Rattle.prepare.specs.Prepare.{Outcome, outcome}
+use Rattle.acceptance.specs.Stages.{Setting, setting, machine_at, relocated_of, record_count, payload_rules}
+use Rattle.prepare.specs.Prepare.{Outcome, outcome, accepted_prepared}
 use Rattle.prepare.specs.declared.prepare.Prepared.{Prepared}
-use Rattle.upload_room.specs.Room.{upload_sizes_ok, slot_in, slot_for, room_rules, request_rules, refused_room, room_by}
-use Rattle.upload_room.specs.declared.room.Room.{Room}
+use Rattle.upload_room.specs.Room.{upload_sizes_ok, slot_in, slot_for, room_rules, request_rules, room_by}
 use Rattle.upload_room.proofs.Laws.{sizes-told}
 use Rattle.upload_record.specs.Record.{record_for, with_uploaded}
 use Rattle.upload.specs.Upload.{Lent, lent, Request, setting_for, upload_rules, prepared_in, uploaded, accepted_upload, refused_upload, upload_of}
@@ -44,9 +41,9 @@ use Rattle.upload.proofs.SlotLaws.{outcome_in, payload-told, outcome-is}
 
 -- ---- up to the slot
 
-found-is : (f : Found) → is_found f ≡ true → f ≡ At (slot_in f)
-found-is (At i) h = refl
-found-is Nothing h = cc
+found-is : (f : Option ℕ) → is_found f ≡ true → f ≡ Some (slot_in f)
+found-is (Some i) h = refl
+found-is None h = cc
 
 module _ (s : State) (arena ids : ℕ) (name list : List ℕ) where
   -- what the rules say
@@ -57,7 +54,7 @@ module _ (s : State) (arena ids : ℕ) (name list : List ℕ) where
     pub new : is_found (with_name s name) ≡ false
     pub free : is_found (free_slot s) ≡ true
 
-  pub has_room : request_rules s arena ids name list ≡ Pass → HasRoom
+  pub has_room : request_rules s arena ids name list ≡ Ok tt → HasRoom
   unfolding request_rules room_rules
   has_room pass =
       let sized = then-pass (must (upload_sizes_ok s arena ids) 22 Nowhere) _ pass in
@@ -86,22 +83,19 @@ module _ (s : State) (arena ids : ℕ) (name list : List ℕ) where
 -- ---- an accepted payload
 
 -- it has `records_max` function records at most
-few-records : (t : Setting) (file : List ℕ) → payload_rules t file ≡ Pass → record_count file ≤ records_max
+few-records : (t : Setting) (file : List ℕ) → payload_rules t file ≡ Ok tt → record_count file ≤ records_max
 few-records t file pass =
     omega (arith, (read-passes file (machine_at t) (then-pass (read_rules (machine_at t) file) _ pass).0).records-most)
 
 -- slot and outcome are those of the definition
-module _ (s : State) (l : Lent) (q : Request) {slot : ℕ} {p : Prepared} {arena ids : List ℕ} {next : State} where
+module _ (s : State) (l : Lent) (q : Request) {slot : ℕ} {x : Prepared} {arena ids : List ℕ} {next : State} where
   accepted-is :
-      slot ≡ slot_for s →
-      outcome p arena ≡ outcome_in (setting_for s q.list) l.arena (slot_for s) q.file Pass →
-      next ≡ with_uploaded s (record_for q.name slot p) → ids ≡ splice l.ids (id_at slot) p.id.bytes →
-      uploaded (called Pass next) (lent arena ids) ≡ accepted_upload s l q
+      slot ≡ slot_for s → x ≡ accepted_prepared (setting_for s q.list) q.file →
+      arena ≡ splice l.arena (slot_at (slot_for s)) (relocated_of (setting_for s q.list) q.file).image →
+      next ≡ with_uploaded s (record_for q.name slot x) → ids ≡ splice l.ids (id_at slot) x.id.bytes →
+      uploaded (called (Ok tt) next) (lent arena ids) ≡ accepted_upload s l q
   unfolding accepted_upload
-  accepted-is slotted prepared state stored =
-      let answer = ap (λ (o : Outcome). o.answer) prepared in
-      let image = ap (λ (o : Outcome). o.image) prepared in
-      rw (state, stored, slotted, answer, image)
+  accepted-is slotted answer image state stored = rw (state, stored, slotted, answer, image)
 
 -- ---- the call, by what its stages answered
 
@@ -119,67 +113,72 @@ module _ (s : State) (l : Lent) (q : Request) where
   unfolding upload_of upload_rules
   upload-by a b = rw (a, b)
 
-  room-told : Told (λ p. p.verdict) refused_room (record { verdict = Pass; slot = slot_for s })
-  room-told = record { refusing = λ r. refl; accepting = refl }
-
   -- `place` is what was found for the payload
-  module _ {place : Room} (found : place ≡ room_by s requested) where
+  module _ {place : Result ℕ Refusal} (found : place ≡ room_by s requested) where
     -- a refusal, with all as it was
-    pub refused-request : {r : Refusal} → place.verdict ≡ Refuse r → refused_upload s l r ≡ upload_of s l q
-    refused-request told = upload-by (rules-told _ _ _ room-told _ _ found told) refl
+    pub refused-request : {r : Refusal} → place ≡ Err r → refused_upload s l r ≡ upload_of s l q
+    refused-request told = upload-by (decided-err _ requested (sym found ∙ told)) refl
 
-    module _ (given : place.verdict ≡ Pass) where
-      passed : requested ≡ Pass
-      passed = rules-told _ _ _ room-told _ _ found given
+    module _ {slot : ℕ} (given : place ≡ Ok slot) where
+      passed : requested ≡ Ok tt
+      passed = (decided-ok _ requested (sym found ∙ given)).0
 
       room : HasRoom s (length l.arena) (length l.ids) q.name q.list
       room = has_room _ _ _ _ _ passed
 
-      slotted : place.slot ≡ slot_for s
-      slotted = ap (λ (p : Room). p.slot) (answer-told _ _ _ room-told requested Pass found given)
+      slotted : slot ≡ slot_for s
+      slotted = (decided-ok _ requested (sym found ∙ given)).1
 
-      slot-inside : place.slot < slot_count
+      slot-inside : slot < slot_count
       slot-inside = omega (arith, slotted, (room-inside _ _ _ _ _ room).1)
 
       -- what the preparation asks for
-      pub ready : {c : Config} → Whole s → c ≡ s.config → (config_ok c ≡ true) × (place.slot < slot_count) × (length l.arena ≡ arena_size)
+      pub ready : {c : Config} → Whole s → c ≡ s.config → (config_ok c ≡ true) × (slot < slot_count) × (length l.arena ≡ arena_size)
       ready whole same =
           let right = sizes-told _ _ _ room.sizes in
           (rw same (in-range whole right.0).config, slot-inside, right.1)
 
       -- `p` is what was prepared, and `arena` what it left of the arena
       module _
-          {c : Config} (same : c ≡ s.config) {p : Prepared} {arena : List ℕ}
-          (done : outcome p arena ≡ prepared_in (setting (host_for c place.slot) q.list) l.arena place.slot q.file) where
+          {c : Config} (same : c ≡ s.config) {p : Result Prepared Refusal} {arena : List ℕ}
+          (done : outcome p arena ≡ prepared_in (setting (host_for c slot) q.list) l.arena slot q.file) where
         prepared : outcome p arena ≡ prepared_in aim l.arena (slot_for s) q.file
         prepared = done ∙ rw (same, slotted)
 
         -- a refusal, with all as it was
-        pub refused-payload : {r : Refusal} → p.verdict ≡ Refuse r → refused_upload s (lent arena l.ids) r ≡ upload_of s l q
-        refused-payload told =
-            let kept = ap (λ (o : Outcome). o.image) (outcome-is _ _ _ _ prepared told) in
-            rw kept (upload-by passed (payload-told _ _ _ _ prepared told))
+        pub refused-payload : {r : Refusal} → p ≡ Err r → refused_upload s (lent arena l.ids) r ≡ upload_of s l q
+        refused-payload {r} told =
+            let kept = ap (λ (o : Outcome). o.image) (outcome-is _ _ _ _ prepared {v = Err r} (ap verdict_of told)) in
+            rw kept (upload-by passed (payload-told _ _ _ _ prepared (ap verdict_of told)))
 
-        module _ (fits : p.verdict ≡ Pass) where
-          passes : payload_rules aim q.file ≡ Pass
-          passes = payload-told _ _ _ _ prepared fits
+        module _ {x : Prepared} (fits : p ≡ Ok x) where
+          passes : payload_rules aim q.file ≡ Ok tt
+          passes = payload-told _ _ _ _ prepared (ap verdict_of fits)
+
+          whole-outcome : outcome p arena ≡ outcome_in aim l.arena (slot_for s) q.file (Ok tt)
+          whole-outcome = outcome-is _ _ _ _ prepared (ap verdict_of fits)
+
+          made : x ≡ accepted_prepared aim q.file
+          made =
+              let same : ◌≡◌ {A = Result Prepared Refusal} (Ok x) (Ok (accepted_prepared aim q.file)) =
+              sym fits ∙ ap (λ (o : Outcome). o.answer) whole-outcome in
+              cc
 
           -- what entering it asks for
           pub enterable :
-              ((s.count < slot_count) × (place.slot < slot_count) × (length l.ids ≡ ids_size))
-              × ((length q.name ≤ name_max) × (p.edit_count ≤ records_max))
+              ((s.count < slot_count) × (slot < slot_count) × (length l.ids ≡ ids_size))
+              × ((length q.name ≤ name_max) × (x.edit_count ≤ records_max))
           enterable = (
             ((room-inside _ _ _ _ _ room).0, slot-inside, (sizes-told _ _ _ room.sizes).2),
             (
               name-short _ _ _ _ _ room,
-              subst⁻¹ (λ (o : Outcome). o.answer.edit_count ≤ records_max) (outcome-is _ _ _ _ prepared fits)
-                  (few-records aim q.file passes),
+              rw made (few-records aim q.file passes),
             ),
           )
 
           -- entered, it is uploaded
           pub accepted :
-              {next : State} {ids : List ℕ} → next ≡ with_uploaded s (record_for q.name place.slot p) →
-              ids ≡ splice l.ids (id_at place.slot) p.id.bytes → uploaded (called Pass next) (lent arena ids) ≡ upload_of s l q
+              {next : State} {ids : List ℕ} → next ≡ with_uploaded s (record_for q.name slot x) →
+              ids ≡ splice l.ids (id_at slot) x.id.bytes → uploaded (called (Ok tt) next) (lent arena ids) ≡ upload_of s l q
           accepted state stored =
-              accepted-is s l q slotted (outcome-is _ _ _ _ prepared fits) state stored ∙ upload-by passed passes
+              accepted-is s l q slotted made (ap (λ (o : Outcome). o.image) whole-outcome) state stored ∙ upload-by passed passes

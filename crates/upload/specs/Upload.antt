@@ -1,15 +1,13 @@
 -- Document 01's upload: a payload read, relocated in the lowest free slot and put last in the list.
-use Rattle.std.specs.Prelude.{ℕ, ◌≡◌, true, false, ◌↔◌, List, length}
+use Rattle.std.specs.Prelude.{ℕ, ◌≡◌, true, false, ◌↔◌, List, length, Ok, Err}
 use Rattle.words.specs.Name.{is_found}
 use Rattle.words.specs.Splice.{splice}
 use Rattle.records.specs.Name.{is_name}
-use Rattle.records.specs.Refusal.{number_of}
+use Rattle.records.specs.Refusal.{number_of, Verdict}
 use Rattle.records.specs.Verdict.{◌then◌, decide}
 use Rattle.records.specs.declared.refusal.Place.{Place}
 use Rattle.records.specs.declared.refusal.Place.TheVariants.{Nowhere}
 use Rattle.records.specs.declared.refusal.Refusal.{Refusal}
-use Rattle.records.specs.declared.refusal.Verdict.{Verdict}
-use Rattle.records.specs.declared.refusal.Verdict.TheVariants.{Pass, Refuse}
 use Rattle.symbols.specs.SymbolList.{valid}
 use Rattle.memory.specs.Config.{host_for}
 use Rattle.memory.specs.Memory.{slot_at, id_at}
@@ -20,7 +18,7 @@ use Rattle.acceptance.specs.Broken.{Broken}
 use Rattle.acceptance.specs.Consulted.{DifferInIgnored}
 use Rattle.acceptance.specs.Keeps.{Keeps}
 use Rattle.acceptance.specs.Stages.{Setting, setting, relocated_of, payload_rules}
-use Rattle.prepare.specs.Prepare.{Outcome, outcome, refused_prepared, accepted_prepared}
+use Rattle.prepare.specs.Prepare.{Outcome, outcome, accepted_prepared}
 use Rattle.prepare.specs.declared.prepare.Prepared.{Prepared}
 use Rattle.upload_room.specs.Room.{upload_sizes_ok, slot_for, request_rules}
 use Rattle.upload_record.specs.Record.{record_for, with_uploaded}
@@ -57,8 +55,8 @@ upload_rules s l q =
 -- the payload prepared in its slot of the arena; a refusal leaves the arena as it was
 unfoldable pub prepared_in : Setting → List ℕ → ℕ → List ℕ → Outcome
 prepared_in t arena slot file =
-    decide (λ r. outcome (refused_prepared r) arena)
-    (outcome (accepted_prepared t file) (splice arena (slot_at slot) (relocated_of t file).image))
+    decide (λ r. outcome (Err r) arena)
+    (outcome (Ok (accepted_prepared t file)) (splice arena (slot_at slot) (relocated_of t file).image))
     (payload_rules t file)
 
 -- ---- the call: the answer, the state, and what arena and id store then hold
@@ -77,7 +75,7 @@ accepted_upload s l q =
     let slot : ℕ = slot_for s in
     let p : Prepared = accepted_prepared (setting_for s q.list) q.file in
     record {
-      answer = Pass;
+      answer = Ok tt;
       state = with_uploaded s (record_for q.name slot p);
       after =
           lent (splice l.arena (slot_at slot) (relocated_of (setting_for s q.list) q.file).image)
@@ -85,7 +83,7 @@ accepted_upload s l q =
     }
 
 abbrev pub refused_upload : State → Lent → Refusal → Uploaded
-refused_upload s l r = record { answer = Refuse r; state = s; after = l }
+refused_upload s l r = record { answer = Err r; state = s; after = l }
 
 unfoldable pub upload_of : State → Lent → Request → Uploaded
 upload_of s l q = decide (refused_upload s l) (accepted_upload s l q) (upload_rules s l q)
@@ -115,6 +113,6 @@ pub data BrokenUpload (s : State) (l : Lent) (q : Request) : ℕ → Place → T
 -- bytes of ignored contents has the same outcome
 pub record Uploads (s : State) (l : Lent) (q : Request) (u : Uploaded) : Type 0 where
   pub equal : u ≡ upload_of s l q
-  pub exactly : (u.answer ≡ Pass) ↔ Acceptable s l q
-  pub broken : (r : Refusal) → u.answer ≡ Refuse r → BrokenUpload s l q (number_of r.reason) r.place
+  pub exactly : (u.answer ≡ Ok tt) ↔ Acceptable s l q
+  pub broken : (r : Refusal) → u.answer ≡ Err r → BrokenUpload s l q (number_of r.reason) r.place
   pub ignored : (other : List ℕ) → DifferInIgnored q.file other → upload_of s l (request q.name q.list other) ≡ u

@@ -9,7 +9,7 @@ ghost use Rattle.upload.specs.Upload.{lent, request, prepared_in, uploaded, Uplo
 use memory::config::Config;
 use prepare::prepare::Prepared;
 use records::payload::Payload;
-use records::refusal::Verdict;
+use records::refusal::Refusal;
 use state::state::{Called, State};
 use upload_record::enter;
 use upload_room::room;
@@ -21,7 +21,7 @@ pub fn prepare_in(
     slot: usize,
     list: &[u8],
     file: &[u8],
-) -> Prepared
+) -> Result<Prepared, Refusal>
     requires { (config_ok config ≡ true) × (slot < slot_count) × (length arena.old ≡ arena_size) }
     ensures { outcome result arena.new
         ≡ prepared_in (setting (host_for config slot) list.now) arena.old slot file.now }
@@ -45,26 +45,28 @@ pub fn upload(
         (request name.now list.now file.now)
         (uploaded result (lent arena.new ids.new)) }
 {
-    let place = room::room_for(state, arena.len(), ids.len(), name, list);
-    let found = place.verdict;
-    if let Verdict::Refuse(r) = found {
-        return Called {
-            verdict: Verdict::Refuse(r),
-            state,
-        };
-    }
+    let slot = match room::room_for(state, arena.len(), ids.len(), name, list) {
+        Ok(slot) => slot,
+        Err(r) => {
+            return Called {
+                verdict: Err(r),
+                state,
+            };
+        }
+    };
     let config = state.config;
-    let prepared = prepare_in(config, arena, place.slot, list, file);
-    let verdict = prepared.verdict;
-    if let Verdict::Refuse(r) = verdict {
-        return Called {
-            verdict: Verdict::Refuse(r),
-            state,
-        };
-    }
-    let next = enter::enter(state, ids, name, place.slot, prepared);
+    let prepared = match prepare_in(config, arena, slot, list, file) {
+        Ok(prepared) => prepared,
+        Err(r) => {
+            return Called {
+                verdict: Err(r),
+                state,
+            };
+        }
+    };
+    let next = enter::enter(state, ids, name, slot, prepared);
     Called {
-        verdict: Verdict::Pass,
+        verdict: Ok(()),
         state: next,
     }
 }

@@ -3,7 +3,7 @@ ghost use Rattle.upload.specs.Upload.{lent, request};
 ghost use Rattle.upload_call.specs.Changes.{Uploads};
 ghost use Rattle.calls.specs.Told.{told};
 
-use records::refusal::{Place, Reason, Refusal, Verdict};
+use records::refusal::{Place, Reason, Refusal};
 use state_bytes::{buffer, parts};
 use upload_in_place::uploading;
 
@@ -24,17 +24,15 @@ pub fn upload(
     if !buffer::is_state(records) {
         return Refusal::new(Reason::Invalid, Place::Nowhere).code();
     }
-    let place = uploading::room_for(records, arena.len(), ids.len(), name, list);
-    let found = place.verdict;
-    if let Verdict::Refuse(r) = found {
-        return r.code();
-    }
+    let slot = match uploading::room_for(records, arena.len(), ids.len(), name, list) {
+        Ok(slot) => slot,
+        Err(r) => return r.code(),
+    };
     let config = parts::config(records);
-    let prepared = upload::upload::prepare_in(config, arena, place.slot, list, file);
-    let verdict = prepared.verdict;
-    if let Verdict::Refuse(r) = verdict {
-        return r.code();
-    }
-    uploading::enter(records, ids, name, place.slot, prepared);
+    let prepared = match upload::upload::prepare_in(config, arena, slot, list, file) {
+        Ok(prepared) => prepared,
+        Err(r) => return r.code(),
+    };
+    uploading::enter(records, ids, name, slot, prepared);
     0
 }

@@ -12,21 +12,26 @@ use in_place::{find, range};
 use outlines::outline;
 use prepare::prepare::Prepared;
 use records::payload::Payload;
-use records::refusal::Reason;
+use records::refusal::{self, Place, Reason, Refusal};
 use state_bytes::parts;
 use state_writes::single;
 use upload_record::enter;
 use upload_room::room;
-use upload_room::room::Room;
 
 // The slot that the payload takes, or why it gets none, by the lengths of arena and id store.
-pub fn room_for(b: &[u8], arena: usize, ids: usize, name: &[u8], list: &[u8]) -> Room
+pub fn room_for(
+    b: &[u8],
+    arena: usize,
+    ids: usize,
+    name: &[u8],
+    list: &[u8],
+) -> Result<usize, Refusal>
     requires { length b.now ≡ records_size }
     ensures { result ≡ room_by (state_in b.now)
         (request_rules (state_in b.now) arena ids name.now list.now) }
 {
     if !room::sizes_ok(range::in_range(b), arena, ids) {
-        return room::refuse(Reason::Invalid);
+        return refusal::refused(Reason::Invalid, Place::Nowhere);
     }
     let loaded = find::with_name(b, name);
     let free = outline::free_slot(range::outline(b));

@@ -1,30 +1,14 @@
 // The rules up to the slot.
 ghost use Rattle.std.specs.Prelude.{◌≡◌};
-ghost use Rattle.records.specs.Verdict.{refusal};
 ghost use Rattle.state.specs.Find.{with_name, free_slot};
 ghost use Rattle.ranges.specs.Ranges.{in_range as state_in_range};
-ghost use Rattle.upload_room.specs.Room.{upload_sizes_ok, room_rules, request_rules, refused_room, room_by};
+ghost use Rattle.upload_room.specs.Room.{upload_sizes_ok, room_rules, request_rules, room_by};
 
 use memory::config::Config;
 use outlines::outline;
 use records::name;
-use records::refusal::{Place, Reason, Verdict};
+use records::refusal::{self, Place, Reason, Refusal};
 use state::state::State;
-use words::bytes::Found;
-
-// The slot for a payload; 0 where the verdict refuses.
-#[derive(Clone, Copy)]
-pub struct Room {
-    pub verdict: Verdict,
-    pub slot: usize,
-}
-
-pub fn refuse(reason: Reason) -> Room
-    ensures { result ≡ refused_room (refusal reason Place.Nowhere) }
-{
-    let verdict = Verdict::refused(reason, Place::Nowhere);
-    Room { verdict, slot: 0 }
-}
 
 // Whether the lent sizes are right, by whether the state is in range.
 pub fn sizes_ok(in_range: bool, arena: usize, ids: usize) -> bool
@@ -40,34 +24,42 @@ pub fn sizes_ok(in_range: bool, arena: usize, ids: usize) -> bool
 }
 
 // The rules after the sizes: name, symbol list, 17, slot. `loaded` is where the state has that name, `free` its free slot.
-pub fn find_room(name: &[u8], list: &[u8], loaded: Found, free: Found) -> Room
+pub fn find_room(
+    name: &[u8],
+    list: &[u8],
+    loaded: Option<usize>,
+    free: Option<usize>,
+) -> Result<usize, Refusal>
     ensures { (s : State) → loaded ≡ with_name s name.now → free ≡ free_slot s
         → result ≡ room_by s (room_rules s name.now list.now) }
 {
     if !name::is_name(name) {
-        return refuse(Reason::Invalid);
+        return refusal::refused(Reason::Invalid, Place::Nowhere);
     }
     if !symbols::is_valid(list) {
-        return refuse(Reason::Invalid);
+        return refusal::refused(Reason::Invalid, Place::Nowhere);
     }
-    if let Found::At(_) = loaded {
-        return refuse(Reason::Loaded);
+    if let Some(_) = loaded {
+        return refusal::refused(Reason::Loaded, Place::Nowhere);
     }
-    let Found::At(slot) = free else {
-        return refuse(Reason::NoRoom);
+    let Some(slot) = free else {
+        return refusal::refused(Reason::NoRoom, Place::Nowhere);
     };
-    Room {
-        verdict: Verdict::Pass,
-        slot,
-    }
+    Ok(slot)
 }
 
 // The slot that the payload takes, or why it gets none, by the lengths of arena and id store.
-pub fn room_for(state: State, arena: usize, ids: usize, name: &[u8], list: &[u8]) -> Room
+pub fn room_for(
+    state: State,
+    arena: usize,
+    ids: usize,
+    name: &[u8],
+    list: &[u8],
+) -> Result<usize, Refusal>
     ensures { result ≡ room_by state (request_rules state arena ids name.now list.now) }
 {
     if !sizes_ok(ranges::ranges::in_range(state), arena, ids) {
-        return refuse(Reason::Invalid);
+        return refusal::refused(Reason::Invalid, Place::Nowhere);
     }
     let loaded = names::with_name(state, name);
     let free = outline::free_slot(outline::outline_of(state));

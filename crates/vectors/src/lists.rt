@@ -1,7 +1,7 @@
 // The symbol list of document 01.
 use super::print;
+use records::refusal;
 use std::io;
-use symbols::Found;
 
 // Its 33 bytes: one name and its address.
 pub(crate) const EXAMPLE: [u8; 33] =
@@ -12,15 +12,19 @@ fn lookup(rt: &impl Print, label: &[u8], bytes: &[u8], name: &[u8]) -> io::Resul
     let search = symbols::find(bytes, name);
     let found = search.found;
     match found {
-        Found::Address(a) => print::number(rt, label, a)?,
-        Found::Nothing => print::word(rt, label, b"not in the list")?,
+        Some(a) => print::number(rt, label, a)?,
+        None => print::word(rt, label, b"not in the list")?,
     }
     print::number(rt, b"entries compared", search.compared as u64)
 }
 
 pub(crate) fn all(rt: &impl Print) -> io::Result<()> {
     let one = EXAMPLE;
-    print::number(rt, b"the list's verdict", symbols::check(&one).code())?;
+    print::number(
+        rt,
+        b"the list's verdict",
+        refusal::code(symbols::check(&one)),
+    )?;
     lookup(rt, b"xen_extra_version", &one, b"xen_extra_version")?;
     lookup(rt, b"xen_extra", &one, b"xen_extra")?;
     lookup(

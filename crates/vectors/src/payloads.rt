@@ -4,6 +4,7 @@ use machine::host::Host;
 use machine::processor::Processor;
 use prepare::prepare::Prepared;
 use records::payload::{Edit, Payload};
+use records::refusal::Refusal;
 use std::io;
 
 const FILE_SIZE: usize = 1176;
@@ -63,7 +64,10 @@ fn host() -> Host {
     }
 }
 
-fn prepared(file: &[u8; FILE_SIZE], image: &mut [u8; Payload::PLACED_MAX]) -> Prepared {
+fn prepared(
+    file: &[u8; FILE_SIZE],
+    image: &mut [u8; Payload::PLACED_MAX],
+) -> Result<Prepared, Refusal> {
     let list = lists::EXAMPLE;
     prepare::prepare::prepare(file, &list, host(), image)
 }
@@ -74,9 +78,8 @@ fn edit(rt: &impl Print, one: Edit) -> io::Result<()> {
 }
 
 fn answer(rt: &impl Print, one: Prepared) -> io::Result<()> {
-    let verdict = one.verdict;
     let edits = one.edits;
-    print::number(rt, b"the payload's verdict", verdict.code())?;
+    print::number(rt, b"the payload's verdict", 0)?;
     print::number(rt, b"placed bytes", one.placed)?;
     print::number(rt, b"edits", one.edit_count as u64)?;
     edit(rt, edits[0])
@@ -89,15 +92,20 @@ fn front(rt: &impl Print, image: &[u8; Payload::PLACED_MAX]) -> io::Result<()> {
 fn accepted(rt: &impl Print) -> io::Result<()> {
     let file = FILE;
     let mut image = [0u8; Payload::PLACED_MAX];
-    answer(rt, prepared(&file, &mut image))?;
+    match prepared(&file, &mut image) {
+        Ok(one) => answer(rt, one)?,
+        Err(r) => print::number(rt, b"the payload's verdict", r.code())?,
+    }
     front(rt, &image)
 }
 
 fn verdict(rt: &impl Print, label: &[u8], file: &[u8; FILE_SIZE]) -> io::Result<()> {
     let mut image = [0u8; Payload::PLACED_MAX];
-    let one = prepared(file, &mut image);
-    let verdict = one.verdict;
-    print::number(rt, label, verdict.code())
+    let code = match prepared(file, &mut image) {
+        Ok(_) => 0,
+        Err(r) => r.code(),
+    };
+    print::number(rt, label, code)
 }
 
 // The verdict where byte `at` of the file is `x`.

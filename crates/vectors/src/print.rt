@@ -30,10 +30,8 @@ fn byte(rt: &impl Print, x: u8) -> io::Result<()> {
 
 pub(crate) fn bytes(rt: &impl Print, label: &[u8], s: &[u8]) -> io::Result<()> {
     start(rt, label)?;
-    let mut i = 0;
-    while i < s.len() {
-        byte(rt, s[i])?;
-        i += 1;
+    for x in s {
+        byte(rt, *x)?;
     }
     end(rt)
 }

@@ -1,8 +1,7 @@
 -- Laws of `where_from` and `every`: a loop over the first n elements of an array, where it begins, a turn, and where it ends;
 -- what a search found, and what passes where all elements do.
-use Rattle.std.proofs.Common.{◌≡◌, ℕ, zero, suc, ◌+◌, ◌-◌, ◌<◌, ◌≤◌, Bool, true, false, cond, ◌&&◌, List, [], ◌∷◌, map, length, get_or, take, drop, refl, add-one, arith, drop_of_length-le, length-take-le, drop-cons, get_or-take}
+use Rattle.std.proofs.Common.{◌≡◌, ℕ, zero, suc, ◌+◌, ◌-◌, ◌<◌, ◌≤◌, Bool, true, false, cond, ◌&&◌, List, [], ◌∷◌, map, length, get_or, take, drop, refl, add-one, arith, drop_of_length-le, length-take-le, drop-cons, get_or-take, Some, None}
 use Rattle.words.specs.Find.{where_from, first_where, every}
-use Rattle.words.specs.declared.bytes.Found.TheVariants.{At, Nothing}
 use Rattle.words.proofs.Tests.{both}
 
 -- what is left of the first n elements, at element i, and at their end
@@ -20,11 +19,11 @@ module _ {A : Type 0} (l : List A) (n i : ℕ) (fits : n ≤ length l) where
 module _ {A : Type 0} (test : A → Bool) (l : List A) (n i : ℕ) (fits : n ≤ length l) where
   pub where-turn :
       (d : A) → i < n →
-      where_from test i (drop i (take n l)) ≡ cond (test (get_or l i d)) (At i) (where_from test (i + 1) (drop (i + 1) (take n l)))
+      where_from test i (drop i (take n l)) ≡ cond (test (get_or l i d)) (Some i) (where_from test (i + 1) (drop (i + 1) (take n l)))
   unfolding where_from
   where-turn d h = rw (left_at l n i fits d h, add-one i)
 
-  pub where-end : n ≤ i → where_from test i (drop i (take n l)) ≡ Nothing
+  pub where-end : n ≤ i → where_from test i (drop i (take n l)) ≡ None
   unfolding where_from
   where-end h = rw (left-none l n i fits h)
 
@@ -57,8 +56,8 @@ module _ {A : Type 0} (test : A → Bool) where
     pub passes : test (get_or xs (e - i) d) ≡ true
 
   hit-if :
-      (i : ℕ) (x : A) (xs : List A) (d : A) (e : ℕ) (t : Bool) → test x ≡ t → (where_from test (suc i) xs ≡ At e → Hit (suc i) xs d e) →
-      cond t (At i) (where_from test (suc i) xs) ≡ At e → Hit i (x ∷ xs) d e
+      (i : ℕ) (x : A) (xs : List A) (d : A) (e : ℕ) (t : Bool) → test x ≡ t → (where_from test (suc i) xs ≡ Some e → Hit (suc i) xs d e) →
+      cond t (Some i) (where_from test (suc i) xs) ≡ Some e → Hit i (x ∷ xs) d e
   hit-if i x xs d e true p later h =
       let same : i ≡ e = cc in
       let first : e - i ≡ 0 = omega arith in
@@ -68,14 +67,14 @@ module _ {A : Type 0} (test : A → Bool) where
       let next : e - i ≡ suc (e - suc i) = omega (arith, f.low) in
       record { low = omega (arith, f.low); high = omega (arith, f.high); passes = rw next f.passes }
 
-  pub where-hit : (i : ℕ) (xs : List A) (d : A) (e : ℕ) → where_from test i xs ≡ At e → Hit i xs d e
+  pub where-hit : (i : ℕ) (xs : List A) (d : A) (e : ℕ) → where_from test i xs ≡ Some e → Hit i xs d e
   unfolding where_from
   where-hit i [] d e h =
       let never : ◌≡◌ {A = ℕ} 0 1 = cc in
       absurd (omega arith)
   where-hit i (x ∷ xs) d e h = hit-if i x xs d e (test x) refl (where-hit (suc i) xs d e) h
 
-  pub first-hit : (xs : List A) (d : A) (e : ℕ) → first_where test xs ≡ At e → (e < length xs) × (test (get_or xs e d) ≡ true)
+  pub first-hit : (xs : List A) (d : A) (e : ℕ) → first_where test xs ≡ Some e → (e < length xs) × (test (get_or xs e d) ≡ true)
   first-hit xs d e h =
       let f = where-hit 0 xs d e h in
       let same : e - 0 ≡ e = omega arith in

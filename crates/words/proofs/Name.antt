@@ -1,18 +1,17 @@
 -- Laws of `zero_from`: a turn of the search, its end, and what it finds.
-use Rattle.std.proofs.Common.{◌≡◌, ℕ, ◌+◌, ◌-◌, ◌<◌, ◌≤◌, eqb, List, length, get_or, ⊎_elim, arith, eqb-true}
+use Rattle.std.proofs.Common.{◌≡◌, ℕ, ◌+◌, ◌-◌, ◌<◌, ◌≤◌, eqb, List, length, get_or, ⊎_elim, arith, eqb-true, Some, None}
 use borrow.Author.Tests.{eqb-false}
-use Rattle.words.specs.declared.bytes.Found.TheVariants.{At, Nothing}
 use Rattle.words.specs.Name.{one_zero, zero_from}
 use Rattle.words.proofs.Scan.{turn, end, Searched, searched}
 
 module _ (s : List ℕ) (i : ℕ) where
   pub zero_turn : i < length s → zero_from s i ≡ one_zero s i (zero_from s (i + 1))
   unfolding zero_from
-  zero_turn h = turn (one_zero s) Nothing i (length s) h
+  zero_turn h = turn (one_zero s) None i (length s) h
 
-  pub zero-end : length s ≤ i → zero_from s i ≡ Nothing
+  pub zero-end : length s ≤ i → zero_from s i ≡ None
   unfolding zero_from
-  zero-end h = end (one_zero s) Nothing i (length s) h
+  zero-end h = end (one_zero s) None i (length s) h
 
 module _ (s : List ℕ) (from : ℕ) where
   -- e is the place of the first zero at or after from
@@ -22,10 +21,10 @@ module _ (s : List ℕ) (from : ℕ) where
     pub zero-there : get_or s e 0 ≡ 0
     pub none_before : (i : ℕ) → from ≤ i → i < e → get_or s i 0 ≡ 0 → ⊥
 
-  found : Searched (λ i. eqb (get_or s i 0) 0) At Nothing from (length s - from)
-  found = searched (λ i. eqb (get_or s i 0) 0) At Nothing from (length s - from)
+  found : Searched (λ i. eqb (get_or s i 0) 0) Some None from (length s - from)
+  found = searched (λ i. eqb (get_or s i 0) 0) Some None from (length s - from)
 
-  pub zero-at : (e : ℕ) → zero_from s from ≡ At e → FirstZero e
+  pub zero-at : (e : ℕ) → zero_from s from ≡ Some e → FirstZero e
   unfolding zero_from
   zero-at e h =
       ⊎_elim
@@ -42,7 +41,7 @@ module _ (s : List ℕ) (from : ℕ) where
       absurd (omega arith))
       found
 
-  pub zero-nothing : zero_from s from ≡ Nothing → (i : ℕ) → from ≤ i → i < length s → get_or s i 0 ≡ 0 → ⊥
+  pub zero-nothing : zero_from s from ≡ None → (i : ℕ) → from ≤ i → i < length s → get_or s i 0 ≡ 0 → ⊥
   unfolding zero_from
   zero-nothing h i p q =
       ⊎_elim

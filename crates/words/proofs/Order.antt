@@ -1,10 +1,8 @@
 -- Laws of `equal`, `order_of` and `comparison`: equal is the test whether two byte strings are the same, and whether `order_of` answers
 -- Same; less is a strict order; and a comparison goes on from byte to byte up to its answer.
-use Rattle.std.proofs.Common.{◌≡◌, ℕ, suc, ◌+◌, ◌<◌, ◌≤◌, Bool, true, false, ◌&&◌, eqb, ltb, ◌⊎◌, List, [], ◌∷◌, length, get_or, drop, refl, ap, ◌∙◌, ap₂, inl, inr, ⊎_elim, add-one, arith, drop_of_length-le, drop-cons, ltb-false, ltb-true, le-ltb, lt-ltb, eq-eqb, ne_eqb, eqb-true}
+use Rattle.std.proofs.Common.{◌≡◌, ℕ, suc, ◌+◌, ◌<◌, Bool, true, false, ◌&&◌, eqb, ltb, ◌⊎◌, List, [], ◌∷◌, length, get_or, drop, min, refl, ap, ◌∙◌, ap₂, inl, inr, ⊎_elim, add-one, arith, drop_of_length-le, drop-cons, ltb-false, ltb-true, le-ltb, lt-ltb, eq-eqb, ne_eqb, eqb-true, Less, Equal, Greater, Ordering}
 use mathlib.Core.Bool.{and-false, and-eq-true_iff, false≢true}
 use Rattle.words.specs.declared.bytes.Comparison.{Comparison}
-use Rattle.words.specs.declared.bytes.Order.{Order}
-use Rattle.words.specs.declared.bytes.Order.TheVariants.{Less, Same, Greater}
 use Rattle.words.specs.Order.{equal, number_order, order_of, is_same, less, compared_bytes, comparison, all_zero}
 
 pub equal-same : (a : List ℕ) → equal a a ≡ true
@@ -81,7 +79,7 @@ module _ (x y : ℕ) (xs ys : List ℕ) where
   unfolding less
   less-rest e h = rw (first-same e) h
 
-pub order_same : (a : List ℕ) → order_of a a ≡ Same
+pub order_same : (a : List ℕ) → order_of a a ≡ Equal
 unfolding order_of
 order_same [] = refl
 order_same (x ∷ xs) = first-same x x xs xs refl ∙ order_same xs
@@ -123,7 +121,7 @@ unfolding comparison
 compared-order a b e = ap (λ (r : Comparison). r.order) e
 
 -- an answer, and the one that is left to find where i bytes have been compared
-abbrev pub answer : Order → ℕ → Comparison
+abbrev pub answer : Ordering → ℕ → Comparison
 answer o n = record { order = o; compared = n }
 
 abbrev pub after : List ℕ → List ℕ → ℕ → Comparison
@@ -156,26 +154,28 @@ module _ (a b : List ℕ) (i : ℕ) where
       (rw (add-one i, drop-cons a i 0 ha, drop-cons b i 0 hb) (first-same _ _ _ _ e))
       (omega (arith, n))
 
-  none_more : (o : Order) → answer o (i + 0) ≡ answer o i
+  none_more : (o : Ordering) → answer o (i + 0) ≡ answer o i
   none_more o = ap (answer o) (omega arith)
 
-  pub compared-longer : i < length a → length b ≤ i → after a b i ≡ answer Greater i
-  unfolding order_of compared_bytes
-  compared-longer ha hb = rw (drop-cons a i 0 ha, drop_of_length-le b hb) (none_more Greater)
-
   pub compared-ended :
-      length a ≤ i → i ≤ length a → i ≤ length b → after a b i ≡ answer (number_order (length a) (length b)) i
+      i ≡ min (length a) (length b) →
+      after a b i ≡ answer (number_order (length a) (length b)) i
   unfolding order_of compared_bytes
-  compared-ended ha ga gb =
+  compared-ended e =
       by_order (length a) (length b) _ _ refl refl
-      (λ l. rw (drop_of_length-le a ha, drop-cons b i 0 (omega arith), lt-ltb _ _ l) (none_more Less))
-      (λ g. absurd (omega arith))
-      (λ e. rw (
-        drop_of_length-le a ha,
+      (λ l. rw (drop_of_length-le a {i = i} (omega arith), drop-cons b i 0 (omega arith), lt-ltb _ _ l) (none_more Less))
+      (λ g. rw (
+        drop-cons a i 0 (omega arith),
+        drop_of_length-le b {i = i} (omega arith),
+        le-ltb (length a) (length b) (omega arith),
+        lt-ltb _ _ g,
+      ) (none_more Greater))
+      (λ same. rw (
+        drop_of_length-le a {i = i} (omega arith),
         drop_of_length-le b {i = i} (omega arith),
         le-ltb (length a) (length b) (omega arith),
         le-ltb (length b) (length a) (omega arith),
-      ) (none_more Same))
+      ) (none_more Equal))
 
 pub all-zero-at : (s : List ℕ) (i : ℕ) → i < length s → all_zero (drop i s) ≡ (eqb (get_or s i 0) 0 && all_zero (drop (i + 1) s))
 unfolding all_zero

@@ -1,5 +1,6 @@
 -- Laws of `splice` and `part`: lengths, elements and parts of a list with part of it replaced, and splices one after the other.
 use Rattle.std.proofs.Common.{◌≡◌, ℕ, zero, suc, ◌+◌, ◌-◌, ◌<◌, ◌≤◌, List, [], ◌∷◌, ◌++◌, length, get_or, take, drop, set, sym, refl, ap, ◌∙◌, append_assoc, append-nil, add-zero, arith, length-append, length-drop, take-append-drop, drop_of_length-le, length-take, length-take-le, get_or-drop, get_or-take, take-suc, take-take, drop-drop, take_at, get_or-append-add, take-add, drop_at}
+use borrow.Rule.Slice.PartMut.{put_mid}
 use lib.ListN.{get_or-append}
 use lib.Seq.{take-length, take-append-le, drop-append-le, take-append-add, drop-append-add, set_at}
 use Rattle.words.specs.Splice.{splice, part}
@@ -41,6 +42,11 @@ module _ {A : Type 0} (p q : List A) where
 pub part-all : {A : Type 0} (s : List A) (n : ℕ) → length s ≡ n → part s 0 n ≡ s
 unfolding part
 part-all s n e = rw (← e) (take-length s)
+
+-- a write of new to the part of k elements from at on
+pub splice-written : {A : Type 0} (s new ys : List A) (at k : ℕ) → ys ≡ new → length new ≡ k → put_mid at k s ys ≡ splice s at new
+unfolding splice
+splice-written s new ys at k same e = rw (same, ← e, drop-drop, append_assoc)
 
 module _ {A : Type 0} (s : List A) (at : ℕ) where
   pub length_part : (n : ℕ) → at + n ≤ length s → length (part s at n) ≡ n

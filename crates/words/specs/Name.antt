@@ -1,20 +1,18 @@
 -- The zero byte that ends a name.
-use Rattle.std.specs.Prelude.{ℕ, ◌-◌, Bool, true, false, cond, List, length, ◌==◌, slice_index}
+use Rattle.std.specs.Prelude.{ℕ, ◌-◌, Bool, true, false, cond, List, length, ◌==◌, slice_index, Some, None, Option}
 use Rattle.words.specs.Scan.{scan}
-use Rattle.words.specs.declared.bytes.Found.{Found}
-use Rattle.words.specs.declared.bytes.Found.TheVariants.{At, Nothing}
 
 -- position i, where a zero byte stands there
-abbrev pub one_zero : List ℕ → ℕ → Found → Found
-one_zero s i rest = cond (slice_index s i == 0) (At i) rest
+abbrev pub one_zero : List ℕ → ℕ → Option ℕ → Option ℕ
+one_zero s i rest = cond (slice_index s i == 0) (Some i) rest
 
 -- the first zero byte of s at or after from
-unfoldable pub zero_from : List ℕ → ℕ → Found
-zero_from s from = scan (one_zero s) Nothing from (length s - from)
+unfoldable pub zero_from : List ℕ → ℕ → Option ℕ
+zero_from s from = scan (one_zero s) None from (length s - from)
 
-abbrev pub is_found : Found → Bool
-is_found (At i) = true
-is_found Nothing = false
+abbrev pub is_found : Option ℕ → Bool
+is_found (Some i) = true
+is_found None = false
 
 -- some byte of s is zero
 abbrev pub has_zero : List ℕ → Bool

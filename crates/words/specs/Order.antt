@@ -1,8 +1,8 @@
 -- Byte strings compared.
+use Rattle.std.specs.declared.cmp.Ordering.{Ordering}
+use Rattle.std.specs.declared.cmp.Ordering.TheVariants.{Less, Equal, Greater}
 use Rattle.std.specs.Prelude.{ℕ, suc, Bool, true, false, cond, ◌&&◌, List, [], ◌∷◌, ◌==◌, nat_lt}
 use Rattle.words.specs.declared.bytes.Comparison.{Comparison}
-use Rattle.words.specs.declared.bytes.Order.{Order}
-use Rattle.words.specs.declared.bytes.Order.TheVariants.{Less, Same, Greater}
 
 -- the same length and the same bytes
 unfoldable pub equal : List ℕ → List ℕ → Bool
@@ -12,25 +12,25 @@ equal (x ∷ xs) [] = false
 equal (x ∷ xs) (y ∷ ys) = x == y && equal xs ys
 
 -- how one number stands to another
-abbrev pub number_order : ℕ → ℕ → Order
-number_order x y = cond (nat_lt x y) Less (cond (nat_lt y x) Greater Same)
+abbrev pub number_order : ℕ → ℕ → Ordering
+number_order x y = cond (nat_lt x y) Less (cond (nat_lt y x) Greater Equal)
 
 -- bytewise: the first byte that differs decides, and a proper beginning is less
-unfoldable pub order_of : List ℕ → List ℕ → Order
-order_of [] [] = Same
+unfoldable pub order_of : List ℕ → List ℕ → Ordering
+order_of [] [] = Equal
 order_of [] (y ∷ ys) = Less
 order_of (x ∷ xs) [] = Greater
 order_of (x ∷ xs) (y ∷ ys) = cond (nat_lt x y) Less (cond (nat_lt y x) Greater (order_of xs ys))
 
 -- the orders as tests
-abbrev pub is_less : Order → Bool
+abbrev pub is_less : Ordering → Bool
 is_less Less = true
-is_less Same = false
+is_less Equal = false
 is_less Greater = false
 
-abbrev pub is_same : Order → Bool
+abbrev pub is_same : Ordering → Bool
 is_same Less = false
-is_same Same = true
+is_same Equal = true
 is_same Greater = false
 
 -- a is less than b

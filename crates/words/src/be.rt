@@ -10,10 +10,8 @@ pub fn read(s: &[u8], at: usize, n: usize) -> u64
     ensures upper_bound { result < 256 ^ n }
 {
     let mut x: u64 = 0;
-    let mut i = 0;
-    while i < n {
+    for i in 0..n {
         x = x * 256 + super::le::wide(s[at + i]);
-        i += 1;
     }
     x
 }
@@ -24,9 +22,7 @@ pub fn write(s: &mut [u8], at: usize, n: usize, x: u64)
     ensures { s.new ≡ splice s.old at (be_bytes n x) }
 {
     let mut y = x;
-    let mut i = n;
-    while 0 < i {
-        i -= 1;
+    for i in (0..n).rev() {
         s[at + i] = (y % 256) as u8;
         y = y / 256;
     }

@@ -1,11 +1,10 @@
 -- Document 01: "each work step makes one edit".
-use Rattle.std.specs.Prelude.{ℕ, ◌+◌, ◌<◌, ◌≤◌, ◌≡◌, Bool, cond, ◌&&◌, List, eqb, length, replicate}
+use Rattle.records.specs.Refusal.{Verdict}
+use Rattle.std.specs.Prelude.{ℕ, ◌+◌, ◌<◌, ◌≤◌, ◌≡◌, Bool, cond, ◌&&◌, List, eqb, length, replicate, Ok, Err}
 use Rattle.words.specs.Splice.{part, splice}
 use Rattle.records.specs.Limits.{records_max}
 use Rattle.records.specs.Verdict.{must, ◌then◌, decide}
 use Rattle.records.specs.declared.refusal.Place.TheVariants.{Nowhere}
-use Rattle.records.specs.declared.refusal.Verdict.{Verdict}
-use Rattle.records.specs.declared.refusal.Verdict.TheVariants.{Pass, Refuse}
 use Rattle.machine.specs.Host.{machine_of}
 use Rattle.machine.specs.Machine.{Machine, edit_max, edit_bytes}
 use Rattle.memory.specs.Memory.{slot_count, undo_at, undo_size}
@@ -78,6 +77,6 @@ worked_with r after = record { answer = r.verdict; state = r.state; after = afte
 
 unfoldable pub work_of : State → Lent → Worked
 work_of s l =
-    decide (λ r. record { answer = Refuse r; state = s; after = l })
-    (record { answer = Pass; state = worked s; after = made (machine_of s.config.processor) (step_now s) l })
+    decide (λ r. record { answer = Err r; state = s; after = l })
+    (record { answer = Ok tt; state = worked s; after = made (machine_of s.config.processor) (step_now s) l })
     (work_rules s l)

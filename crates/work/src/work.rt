@@ -4,7 +4,7 @@ ghost use Rattle.work.specs.Work.{lent, work_sizes_ok, worked_with, work_of};
 
 use super::edit;
 use memory::config::Config;
-use records::refusal::{Reason, Verdict};
+use records::refusal::Reason;
 use state::state::{Called, State};
 use steps::{end, step};
 
@@ -42,7 +42,7 @@ pub fn work(state: State, text: &mut [u8], undo: &mut [u8]) -> Called
     edit::make(text, undo, processor, step);
     let next = end::next_state(state);
     Called {
-        verdict: Verdict::Pass,
+        verdict: Ok(()),
         state: next,
     }
 }

@@ -1,4 +1,6 @@
 -- A work step made in the bytes of a state: what each test of it decides, and what the bytes then hold.
+use Rattle.records.specs.Refusal.{Verdict}
+use Rattle.std.proofs.Common.{Ok, Err}
 use Prim.Native.Nat.{ℕ, ◌+◌}
 use mathlib.Core.Path.{◌≡◌, refl, ap, subst, ◌∙◌}
 use mathlib.Core.Bool.{Bool, true, false, cond}
@@ -10,8 +12,6 @@ use Rattle.records.specs.Verdict.{refusal}
 use Rattle.records.specs.declared.refusal.Place.TheVariants.{Nowhere}
 use Rattle.records.specs.declared.refusal.Reason.{Reason}
 use Rattle.records.specs.declared.refusal.Reason.TheVariants.{Invalid, Busy}
-use Rattle.records.specs.declared.refusal.Verdict.{Verdict}
-use Rattle.records.specs.declared.refusal.Verdict.TheVariants.{Pass, Refuse}
 use Rattle.machine.specs.Host.{machine_of}
 use Rattle.memory.specs.declared.config.Config.{Config}
 use Rattle.state.specs.Change.{changed_in}
@@ -70,7 +70,7 @@ stepped {w} {answer} {v} {s} {l} {m} {after} e a h f =
 
 module _ (s : State) (l : Lent) where
   abbrev refused_with : Reason → Worked
-  refused_with reason = record { answer = Refuse (refusal reason Nowhere); state = s; after = l }
+  refused_with reason = record { answer = Err (refusal reason Nowhere); state = s; after = l }
 
   pub work-out : work_sizes_ok s (length l.text) (length l.undo) ≡ false → refused_with Invalid ≡ work_of s l
   unfolding work_of work_rules
@@ -88,7 +88,7 @@ module _ (s : State) (l : Lent) where
 
       pub work-made :
           is_complete s ≡ true →
-          record { answer = Pass; state = worked s; after = work.made (machine_of s.config.processor) (step_now s) l } ≡ work_of s l
+          record { answer = Ok tt; state = worked s; after = work.made (machine_of s.config.processor) (step_now s) l } ≡ work_of s l
       unfolding work_of work_rules
       work-made e = simp (h, ne_eqb _ _ n, e)
 

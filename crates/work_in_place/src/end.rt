@@ -13,7 +13,6 @@ use outlines::counts;
 use state::state::{Job, State};
 use state_bytes::parts;
 use state_writes::single;
-use words::bytes::Found;
 
 // The stack after the job.
 fn set_stack(b: &mut [u8])
@@ -48,10 +47,8 @@ fn take_down(b: &mut [u8])
         return;
     }
     let count = parts::count(b);
-    let mut i = 0;
-    while i < count {
+    for i in 0..count {
         change::set_status(b, i, State::CHECKED);
-        i += 1;
     }
 }
 
@@ -60,7 +57,7 @@ fn finish(b: &mut [u8], slot: u32, action: u32)
     requires { (is_state b.old ≡ true) × ((state_in b.old).count ≤ slot_count) }
     ensures { HoldsState (changed_in (finished action) (state_in b.old) slot) b.new }
 {
-    let Found::At(i) = range::with_slot(b, slot) else {
+    let Some(i) = range::with_slot(b, slot) else {
         return;
     };
     let mut payload = parts::payload(b, i);

@@ -10,7 +10,7 @@ ghost use Rattle.work.specs.Work.{lent, work_sizes_ok, work_of};
 use super::end;
 use in_place::range;
 use memory::config::Config;
-use records::refusal::{Place, Reason, Verdict};
+use records::refusal::{self, Place, Reason, Refusal};
 use state::steps::Step;
 use state_bytes::parts;
 use steps::step;
@@ -41,26 +41,26 @@ fn step_now(b: &[u8]) -> Step
 }
 
 // The job's next edit is made; its last one ends the job.
-pub fn work(b: &mut [u8], text: &mut [u8], undo: &mut [u8]) -> Verdict
+pub fn work(b: &mut [u8], text: &mut [u8], undo: &mut [u8]) -> Result<(), Refusal>
     requires { is_state b.old ≡ true }
     ensures { (result ≡ (work_of (state_in b.old) (lent text.old undo.old)).answer)
         × HoldsState (work_of (state_in b.old) (lent text.old undo.old)).state b.new
         × (lent text.new undo.new ≡ (work_of (state_in b.old) (lent text.old undo.old)).after) }
 {
     if !sizes_ok(b, text.len(), undo.len()) {
-        return Verdict::refused(Reason::Invalid, Place::Nowhere);
+        return refusal::refused(Reason::Invalid, Place::Nowhere);
     }
     let job = parts::job(b);
     if job.action == 0 {
-        return Verdict::refused(Reason::Invalid, Place::Nowhere);
+        return refusal::refused(Reason::Invalid, Place::Nowhere);
     }
     let config = parts::config(b);
     if !rendezvous::all_held(job, config.cpus as usize) {
-        return Verdict::refused(Reason::Busy, Place::Nowhere);
+        return refusal::refused(Reason::Busy, Place::Nowhere);
     }
     let processor = config.processor;
     let step = step_now(b);
     edit::make(text, undo, processor, step);
     end::next(b);
-    Verdict::Pass
+    Ok(())
 }

@@ -16,7 +16,7 @@ use Rattle.encode.proofs.write_edits.Goals.{Joined-r-count, then-r-count, else-r
 
 pub loop-r-init : goal.loop-r-init
 unfolding rows
-loop-r-init c = (omega arith, sym (splice-none c.args.buffer.now 0), omega arith)
+loop-r-init c = (sym (splice-none c.args.buffer.now 0), omega arith)
 
 pub write_entry-requires : goal.write_entry-requires
 write_entry-requires c = let edits = c.args.edits in
@@ -48,14 +48,13 @@ loop-r-preserved c = let a = c.args in
     let l = c.loop-r in
     let row = row_of (host_machine a.host) a.host.text a.edits a.count l.r in
     let room : entry_size * l.r + length row ≤ length l.buffer = omega (arith, length-row fitting l.r) in (
-      omega arith,
-      laid c ∙ rw (l.invariant.1, add-one) (row_laid fitting a.buffer.now l.r),
-      ap length (laid c) ∙ length-splice l.buffer (entry_size * l.r) row room ∙ l.invariant.2,
+      laid c ∙ rw (l.invariant.0, add-one) (row_laid fitting a.buffer.now l.r),
+      ap length (laid c) ∙ length-splice l.buffer (entry_size * l.r) row room ∙ l.invariant.1,
     )
 
 pub returns : goal.returns
 returns c = let a = c.args in
     let l = c.loop-r in
     let all : l.r ≡ records_max = omega arith in
-    l.invariant.1 ∙ ap (λ (k : ℕ). splice a.buffer.now 0 (rows (host_machine a.host) a.host.text a.edits a.count k)) all
+    l.invariant.0 ∙ ap (λ (k : ℕ). splice a.buffer.now 0 (rows (host_machine a.host) a.host.text a.edits a.count k)) all
     ∙ all_laid c.requires.2 a.buffer.now (omega arith)

@@ -1,5 +1,4 @@
 -- `write_entries` meets its contract: the entries of `j` payloads are written in each buffer.
-use Prim.Native.Nat.{◌-◌, ◌≤◌}
 use Rattle.records.specs.Limits.{name_max}
 use Rattle.state.specs.State.{loaded}
 use Rattle.listing.specs.List.{status_bytes, name_bytes, length_bytes}
@@ -7,10 +6,6 @@ use Rattle.listing.proofs.ListLaws.{Entries}
 use Rattle.listing.proofs.write_entries.Given as goal
 
 abbrev pub invariant-loop-j : goal.invariant-loop-j
-invariant-loop-j l = (l.j ≤ l.n)
-    × Entries status_bytes 8 (loaded l.state) l.idx l.initial.statuses l.j l.statuses
-    × Entries name_bytes name_max (loaded l.state) l.idx l.initial.names l.j l.names
-    × Entries length_bytes 4 (loaded l.state) l.idx l.initial.lengths l.j l.lengths
-
-abbrev pub decreases-loop-j : goal.decreases-loop-j
-decreases-loop-j l = l.n - l.j
+invariant-loop-j l = Entries status_bytes 8 (loaded l.fn.state) l.idx l.initial.statuses l.j l.statuses
+    × Entries name_bytes name_max (loaded l.fn.state) l.idx l.initial.names l.j l.names
+    × Entries length_bytes 4 (loaded l.fn.state) l.idx l.initial.lengths l.j l.lengths

@@ -23,7 +23,7 @@ module _ (c : goal.Start) where
 
 pub loop-i-init : goal.loop-i-init
 unfolding with_name
-loop-i-init c = (omega arith, refl)
+loop-i-init c = refl
 
 pub is_named-requires : goal.is_named-requires
 is_named-requires c = let i = c.loop-i.i in
@@ -32,20 +32,17 @@ is_named-requires c = let i = c.loop-i.i in
 
 pub returns-then-is_named : goal.returns-then-is_named
 returns-then-is_named c = sym
-    (c.loop-i.invariant.1
+    (c.loop-i.invariant
     ∙ where-turn _ _ _ _ (many (goal.at.returns-then-is_named c).Start) no_copy c.loop-i-test.true
     ∙ rw (← c.is_named.ensures, c.if-is_named.true))
 
 pub loop-i-preserved : goal.loop-i-preserved
-loop-i-preserved c = (
-  omega arith,
-  c.loop-i.invariant.1
-      ∙ where-turn _ _ _ _ (many (goal.at.loop-i-preserved c).Start) no_copy c.loop-i-test.true
-      ∙ rw (← c.is_named.ensures, c.if-is_named.false),
-)
+loop-i-preserved c = c.loop-i.invariant
+    ∙ where-turn _ _ _ _ (many (goal.at.loop-i-preserved c).Start) no_copy c.loop-i-test.true
+    ∙ rw (← c.is_named.ensures, c.if-is_named.false)
 
 pub returns : goal.returns
-returns c = sym (c.loop-i.invariant.1 ∙ where-end _ _ _ _ (many (goal.at.returns c).Start) c.loop-i-test.false)
+returns c = sym (c.loop-i.invariant ∙ where-end _ _ _ _ (many (goal.at.returns c).Start) c.loop-i-test.false)
 
 pub offset_bounds-state-i : goal.offset_bounds-state-i
 offset_bounds-state-i c = omega (arith, (ranges (goal.at.offset_bounds-state-i c).Start).few)

@@ -1,5 +1,4 @@
 -- `with_name` meets its contract: what is found from payload `i` on is what is found from the first on.
-use Prim.Native.Nat.{◌≤◌, ◌-◌}
 use mathlib.Core.Path.{◌≡◌}
 use lib.ListN.{drop}
 use Rattle.words.specs.Find.{where_from}
@@ -8,7 +7,4 @@ use Rattle.state.specs.State.{loaded}
 use Rattle.names.proofs.with_name.Given as goal
 
 abbrev pub invariant-loop-i : goal.invariant-loop-i
-invariant-loop-i l = (l.i ≤ l.state.count) × (with_name l.state l.name ≡ where_from (is_named l.name) l.i (drop l.i (loaded l.state)))
-
-abbrev pub decreases-loop-i : goal.decreases-loop-i
-decreases-loop-i l = l.state.count - l.i
+invariant-loop-i l = with_name l.state l.name ≡ where_from (is_named l.name) l.i (drop l.i (loaded l.state))

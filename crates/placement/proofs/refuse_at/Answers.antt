@@ -10,4 +10,4 @@ fill-requires c = omega (arith, c.requires)
 
 pub returns : goal.returns
 unfolding refused_at
-returns c = rw (c.fill.ensures ∙ cleared _ c.requires)
+returns c = rw (c.fill.ensures ∙ cleared _ c.requires, c.refused.ensures)

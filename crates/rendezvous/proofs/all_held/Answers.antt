@@ -1,39 +1,23 @@
--- `all_held` meets its contract: all CPUs are held exactly where those from `i` on are.
-use Prim.Native.Nat.{◌≤◌}
-use mathlib.Core.Path.{◌≡◌, refl, sym, ◌∙◌}
-use mathlib.Core.Bool.{false}
-use native.Mathlib.Omega.{arith}
-use lib.ListN.{length}
-use Rattle.words.proofs.Find.{every-turn, every-end}
-use Rattle.memory.specs.Config.{cpus_max}
+-- `all_held` meets its contract: all CPUs are held exactly where those left are.
+use Rattle.std.proofs.Common.{false, take, refl, sym, ◌∙◌, add-one, drop-cons, drop_of_length-le}
+use Rattle.words.specs.Find.{every}
 use Rattle.rendezvous.proofs.all_held.Goals as goal
-use Rattle.rendezvous.proofs.all_held.Goals.{Start}
 
--- a CPU has its place among those that may be held: a job that is owned has its array whole
-module _ (c : goal.Start) where
-  whole : length c.args.job.held ≡ cpus_max
-  whole = let held = c.well_formed.0.1.1.1.1.0 in held.1.0.1
+pub loop-held-init : goal.loop-held-init
+loop-held-init c = refl
 
-  many : c.args.count ≤ length c.args.job.held
-  many = omega (arith, whole)
+pub returns-then-not-held : goal.returns-then-not-held
+unfolding every
+returns-then-not-held c = let those = take c.args.count c.args.job.held in
+    sym (c.loop-held.invariant ∙ rw (drop-cons those c.loop-held.held-index false c.loop-held-test.true, c.if-not-held.true))
 
-pub loop-i-init : goal.loop-i-init
-loop-i-init c = (omega arith, refl)
-
-pub returns-then-not-job-i : goal.returns-then-not-job-i
-returns-then-not-job-i c = let i = c.loop-i.i in
-    sym
-    (c.loop-i.invariant.1
-    ∙ every-turn _ _ _ i (many (goal.at.returns-then-not-job-i c).Start) false (omega arith)
-    ∙ rw c.if-not-job-i.true)
-
-pub loop-i-preserved : goal.loop-i-preserved
-loop-i-preserved c = let i = c.loop-i.i in (
-  omega arith,
-  c.loop-i.invariant.1
-      ∙ every-turn _ _ _ i (many (goal.at.loop-i-preserved c).Start) false (omega arith)
-      ∙ rw c.if-not-job-i.false,
-)
+pub loop-held-preserved : goal.loop-held-preserved
+unfolding every
+loop-held-preserved c = let those = take c.args.count c.args.job.held in
+    c.loop-held.invariant
+    ∙ rw (add-one c.loop-held.held-index, drop-cons those c.loop-held.held-index false c.loop-held-test.true, c.if-not-held.false)
 
 pub returns : goal.returns
-returns c = sym (c.loop-i.invariant.1 ∙ every-end _ _ _ _ (many (goal.at.returns c).Start) c.loop-i-test.false)
+unfolding every
+returns c = let those = take c.args.count c.args.job.held in
+    sym (c.loop-held.invariant ∙ rw (drop_of_length-le those c.loop-held-test.false))

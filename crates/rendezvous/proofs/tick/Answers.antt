@@ -1,10 +1,10 @@
 -- `tick` meets its contract: the first test that fails refuses; else by whether all CPUs are held, and whether this tick is the last.
+use Rattle.std.proofs.Common.{Ok}
 use mathlib.Core.Path.{◌≡◌, ap, ◌∙◌}
 use mathlib.Core.Bool.{true}
 use native.Mathlib.Omega.{arith}
 use borrow.Author.Tests.{eq-eqb, ne_eqb}
 use Rattle.words.proofs.Tests.{held, refuted}
-use Rattle.records.specs.declared.refusal.Verdict.TheVariants.{Pass}
 use Rattle.state.specs.State.{called}
 use Rattle.state.specs.declared.state.State.{State}
 use Rattle.state.proofs.Whole.{whole}
@@ -39,26 +39,26 @@ overflow_sub-job c =
     omega (arith, ((in-range (whole c.args.state _ c.well_formed.0) known).job (rw (ne_eqb _ _ c.if-job-eq0.false))).timed)
 
 -- the rules are kept: what the tick does decides
-passed : (c : goal.After-is_complete) → called Pass (ticked c.args.state) ≡ tick_of c.args.state
+passed : (c : goal.After-is_complete) → called (Ok tt) (ticked c.args.state) ≡ tick_of c.args.state
 unfolding tick_of tick_rules
 passed c = simp (held c.in_range.ensures c.if-not-in_range.false, ne_eqb _ _ c.if-job-eq0.false)
 
 pub returns-then-job-eq1 : goal.returns-then-job-eq1
 unfolding ticked
 returns-then-job-eq1 c =
-    ap (λ (t : State). called Pass t)
+    ap (λ (t : State). called (Ok tt) t)
     (c.time_out-ended.ensures ∙ rw (← c.is_complete.ensures, c.if-is_complete.false, eq-eqb _ _ c.if-job-eq1.true))
     ∙ passed (goal.at.returns-then-job-eq1 c).After-is_complete
 
 pub returns : goal.returns
 unfolding ticked
 returns c =
-    ap (λ (t : State). called Pass t)
+    ap (λ (t : State). called (Ok tt) t)
     (rw (← c.is_complete.ensures, c.if-is_complete.false, ne_eqb _ _ c.if-job-eq1.false))
     ∙ passed (goal.at.returns c).After-is_complete
 
 pub returns-then-is_complete : goal.returns-then-is_complete
 unfolding ticked
 returns-then-is_complete c =
-    ap (λ (t : State). called Pass t) (rw (← c.is_complete.ensures, c.if-is_complete.true))
+    ap (λ (t : State). called (Ok tt) t) (rw (← c.is_complete.ensures, c.if-is_complete.true))
     ∙ passed (goal.at.returns-then-is_complete c).After-is_complete

@@ -1,10 +1,10 @@
 -- `start` meets its contract: a refusal leaves arena and stores, and else each is zeroed.
+use Rattle.std.proofs.Common.{Ok}
 use mathlib.Core.Path.{◌≡◌, sym, ap, ◌∙◌}
 use mathlib.Core.Bool.{true, false, and-false}
 use native.Mathlib.Omega.{arith}
 use lib.ListN.{length}
 use Rattle.words.proofs.Tests.{held, refuted}
-use Rattle.records.specs.declared.refusal.Verdict.TheVariants.{Pass}
 use Rattle.memory.specs.Memory.{arena_size, undo_size, ids_size}
 use Rattle.state.specs.declared.state.Called.{Called}
 use Rattle.state.specs.declared.state.State.{State}
@@ -63,7 +63,7 @@ fill-requires-3 c κs = omega (arith, (sizes c.before.before.before.before.befor
 returns : tie.Need-returns
 returns c = let sizing = sizes c.before.before.before.before.before.before.before.before.before.before.before.before.before.before.before.before in
     started-same
-    (ap (λ (s : State). record { verdict = Pass; state = s }) c.with_config-state.ensures)
+    (ap (λ (s : State). record { verdict = Ok tt; state = s }) c.with_config-state.ensures)
     (c.fill.ensures ∙ zeroed _ _ sizing.0)
     (c.fill-2.ensures ∙ zeroed _ _ sizing.1)
     (c.fill-3.ensures ∙ zeroed _ _ sizing.2)

@@ -1,7 +1,7 @@
 -- `starting::start` meets its contract.
+use Rattle.std.proofs.Common.{Ok, Err}
 use mathlib.Core.Path.{◌≡◌, refl, sym, ◌∙◌}
 use lib.ListN.{length}
-use Rattle.records.specs.declared.refusal.Verdict.TheVariants.{Pass, Refuse}
 use Rattle.startup.specs.Start.{Lent}
 use Rattle.state_bytes.specs.Layout.{records_size}
 use Rattle.action_calls.specs.Changes.{start_lent}
@@ -23,17 +23,17 @@ returns-then-records-size c = let l = given (goal.at.returns-then-records-size c
 size : (c : goal.Else-records-size) → length c.args.records.now ≡ records_size
 size c = c.if-records-size.false ∙ c.size.ensures
 
-pub returns-in-Refuse : goal.returns-in-Refuse
-returns-in-Refuse c = let l = given (goal.at.returns-in-Refuse c).Start in record {
-  ids_after = start-told _ l (size (goal.at.returns-in-Refuse c).Else-records-size) c.start-called.result _ _ _ (Refuse _) c.start-called.ensures c.in-Refuse.is
-      c.code-in-Refuse.ensures
+pub returns-in-Err : goal.returns-in-Err
+returns-in-Err c = let l = given (goal.at.returns-in-Err c).Start in record {
+  ids_after = start-told _ l (size (goal.at.returns-in-Err c).Else-records-size) c.start-called.result _ _ _ (Err _) c.start-called.ensures c.in-Err.is
+      c.code-in-Err.ensures
       refl;
-  start_kept = refused-start l _ _ c.code-in-Refuse.ensures;
+  start_kept = refused-start l _ _ c.code-in-Err.ensures;
 }
 
 pub returns : goal.returns
 returns c = let l = given (goal.at.returns c).Start in record {
-  ids_after = start-told _ l (size (goal.at.returns c).Else-records-size) c.start-called.result _ _ _ Pass c.start-called.ensures c.in_default.is refl
+  ids_after = start-told _ l (size (goal.at.returns c).Else-records-size) c.start-called.result _ _ _ (Ok tt) c.start-called.ensures c.in_default.is refl
       c.store.ensures.bytes;
   start_kept = accepted-start l c.start-called.result c.start-called.ensures c.in_default.is c.store.ensures;
 }

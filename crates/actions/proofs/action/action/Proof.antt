@@ -1,10 +1,8 @@
 -- `action::action` meets its contract: each stage that refuses leaves what the definition says, and else the action is done.
-use Rattle.std.proofs.Common.{◌≡◌, ℕ, ◌<◌, Bool, true, List, length, get_or, sym, ap, ◌∙◌, arith, rules, eq-eqb, ne_eqb}
-use Rattle.words.specs.declared.bytes.Found.TheVariants.{At}
+use Rattle.records.specs.Refusal.{Verdict}
+use Rattle.std.proofs.Common.{◌≡◌, ℕ, ◌<◌, Bool, true, List, length, get_or, sym, ap, ◌∙◌, arith, rules, eq-eqb, ne_eqb, Some, Ok, Err}
 use Rattle.records.specs.Verdict.{decide}
 use Rattle.records.specs.declared.payload.Payload.{Payload}
-use Rattle.records.specs.declared.refusal.Verdict.{Verdict}
-use Rattle.records.specs.declared.refusal.Verdict.TheVariants.{Pass, Refuse}
 use Rattle.memory.specs.Memory.{slot_count}
 use Rattle.state.specs.Change.{changed_at}
 use Rattle.state.specs.Find.{with_name, payload_at}
@@ -63,10 +61,10 @@ module _ (c : tie.Else-not-sizes_ok) where
   ranges : InRange (state start)
   ranges = in-range kept sized.ranges
 
-returns-in-Refuse : tie.Need-returns-in-Refuse
-returns-in-Refuse c = sym
+returns-in-Err : tie.Need-returns-in-Err
+returns-in-Err c = sym
     (wrong-request (state (start c.before.before)) _ (memory (start c.before.before)) (asked (start c.before.before)) (right c.before.before)
-    (target-rules (state (start c.before.before)) _ _ c.find_target-target.ensures c.in-Refuse.is))
+    (target-rules (state (start c.before.before)) _ _ c.find_target-target.ensures c.in-Err.is))
 
 -- the payload is found
 module _ (c : tie.In_default) where
@@ -76,7 +74,7 @@ module _ (c : tie.In_default) where
   abbrev place : ℕ
   place = c.find_target-target.result.place
 
-  found : with_name (state (start sizing)) (asked (start sizing)).name ≡ At place
+  found : with_name (state (start sizing)) (asked (start sizing)).name ≡ Some place
   found = target-place (state (start sizing)) _ _ c.find_target-target.ensures c.in_default.is
 
   counted : place < (state (start sizing)).count
@@ -115,10 +113,10 @@ module _ (c : tie.After-check_conditions-verdict) where
       (ap (condition_rules (state from) (build_id from) (memory from).ids (asked from).command) (sym (copied at))
       ∙ sym c.check_conditions-verdict.ensures ∙ told)
 
-returns-in-Refuse-verdict : tie.Need-returns-in-Refuse-verdict
-returns-in-Refuse-verdict c = let result = c.set_result-told.ensures ∙ ap (λ (n : ℕ). changed_at (with_result n) (state (from c.before.before.before)) (place (at c.before.before.before))) c.number.ensures.0 in
-    ap (λ (s : State). acted (called (Refuse c.in-Refuse-verdict.r) s) (memory (from c.before.before.before))) result
-    ∙ sym (decided c.before.before.before c.in-Refuse-verdict.is)
+returns-in-Err-verdict : tie.Need-returns-in-Err-verdict
+returns-in-Err-verdict c = let result = c.set_result-told.ensures ∙ ap (λ (n : ℕ). changed_at (with_result n) (state (from c.before.before.before)) (place (at c.before.before.before))) c.number.ensures.0 in
+    ap (λ (s : State). acted (called (Err c.in-Err-verdict.r) s) (memory (from c.before.before.before))) result
+    ∙ sym (decided c.before.before.before c.in-Err-verdict.is)
 
 clear-requires : tie.Need-clear-requires
 clear-requires c κs = let found = at c.before.before.before.before.before.before in
@@ -145,16 +143,16 @@ module _ (c : tie.After-clear) where
   zeroed = c.clear.ensures ∙ ap (λ (p : Payload). cleared p.slot (memory (from looked))) (copied (at looked))
 
 returns-then-command-eq-UNLOAD : tie.Need-returns-then-command-eq-UNLOAD
-returns-then-command-eq-UNLOAD c = let rest = unloaded_at (state (from (looked c.before.before.before.before.before.before.before))) (At (place (at (looked c.before.before.before.before.before.before.before)))) in
-    acted-same {r = called Pass c.unloaded-rest.result} {q = called Pass rest} {a = after c.before.before.before.before.before.before.before}
-    (ap (called Pass) c.unloaded-rest.ensures)
+returns-then-command-eq-UNLOAD c = let rest = unloaded_at (state (from (looked c.before.before.before.before.before.before.before))) (Some (place (at (looked c.before.before.before.before.before.before.before)))) in
+    acted-same {r = called (Ok tt) c.unloaded-rest.result} {q = called (Ok tt) rest} {a = after c.before.before.before.before.before.before.before}
+    (ap (called (Ok tt)) c.unloaded-rest.ensures)
     (zeroed c.before.before.before.before.before.before.before)
     ∙ sym (decided (looked c.before.before.before.before.before.before.before) c.in_default-verdict.is ∙ rw (eq-eqb _ _ c.if-command-eq-UNLOAD.true))
 
 returns : tie.Need-returns
 returns c = let slot = ap (λ (p : Payload). p.slot) (copied (at c.before.before.before.before)) in
     let job = c.job_for-next.ensures ∙ ap (λ (n : ℕ). job_for (asked (from c.before.before.before.before)).command n (asked (from c.before.before.before.before)).time) slot in
-    ap (λ (s : State). acted (called Pass s) (memory (from c.before.before.before.before))) (begun-same job c.set_result-next.ensures)
+    ap (λ (s : State). acted (called (Ok tt) s) (memory (from c.before.before.before.before))) (begun-same job c.set_result-next.ensures)
     ∙ sym (decided c.before.before.before.before c.in_default-verdict.is ∙ rw (ne_eqb _ _ c.if-command-eq-UNLOAD.false))
 
 find_target-target-requires : tie.Need-find_target-target-requires
@@ -174,4 +172,4 @@ set_result-next-requires c κs = inside (at c.before.before)
 
 pub action_spec : {M : Type 1} → statement M
 action_spec =
-    tie.close (tie.spec (λ c κs. search rules) (λ c κs. search rules) returns-then-not-sizes_ok find_target-target-requires (λ c. search rules) returns-in-Refuse (λ c. search rules) offset_bounds-state-i bounds-state-i check_conditions-verdict-requires (λ c. search rules) (λ c κs. search rules) (λ c. search rules) set_result-told-requires (λ c. search rules) returns-in-Refuse-verdict (λ c. search rules) (λ c. search rules) clear-requires unloaded-rest-requires (λ c. search rules) (λ c. search rules) (λ c. search rules) returns-then-command-eq-UNLOAD set_result-next-requires (λ c κs. search rules) (λ c. search rules) returns)
+    tie.close (tie.spec (λ c κs. search rules) (λ c κs. search rules) returns-then-not-sizes_ok find_target-target-requires (λ c. search rules) returns-in-Err (λ c. search rules) offset_bounds-state-i bounds-state-i check_conditions-verdict-requires (λ c. search rules) (λ c κs. search rules) (λ c. search rules) set_result-told-requires (λ c. search rules) returns-in-Err-verdict (λ c. search rules) (λ c. search rules) clear-requires unloaded-rest-requires (λ c. search rules) (λ c. search rules) (λ c. search rules) returns-then-command-eq-UNLOAD set_result-next-requires (λ c κs. search rules) (λ c. search rules) returns)

@@ -1,8 +1,8 @@
 -- `rules::check_conditions` meets its contract: the status, then the stack.
+use Rattle.records.specs.Refusal.{Verdict}
 use Rattle.std.proofs.Common.{◌≡◌, Bool, sym, ap, ◌∙◌, rules}
 use Rattle.records.specs.Verdict.{must}
 use Rattle.records.specs.declared.refusal.Place.TheVariants.{Nowhere}
-use Rattle.records.specs.declared.refusal.Verdict.{Verdict}
 use Rattle.actions.specs.Actions.{condition_rules}
 use Rattle.actions.proofs.ActionLaws.{wrong-status, right-status}
 use Rattle.actions.proofs.rules.check_conditions.Statement.{statement}

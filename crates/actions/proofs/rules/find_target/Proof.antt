@@ -1,8 +1,7 @@
 -- `rules::find_target` meets its contract: the first rule that fails decides.
-use Rattle.std.proofs.Common.{◌≡◌, ◌<◌, true, sym, ◌∙◌, arith, rules, le-leb}
+use Rattle.std.proofs.Common.{◌≡◌, ◌<◌, true, sym, ◌∙◌, arith, rules, le-leb, Some}
 use mathlib.Core.Bool.{and-false}
 use borrow.Author.Tests.{lt-leb}
-use Rattle.words.specs.declared.bytes.Found.TheVariants.{At}
 use Rattle.words.proofs.Tests.{held, refuted}
 use Rattle.records.specs.Name.{is_name}
 use Rattle.memory.specs.Memory.{slot_count}
@@ -28,7 +27,7 @@ returns-in_default c = simp (
 )
 
 -- the payload was found
-module _ (c : tie.In-At) where
+module _ (c : tie.In-Some) where
   abbrev named : tie.Else-not-is_name
   named = c.before.before
 
@@ -38,13 +37,13 @@ module _ (c : tie.In-At) where
   is-named : is_name start.args.name.now ≡ true
   is-named = held named.before.is_name.ensures named.if-not-is_name.false
 
-  found : with_name start.args.state start.args.name.now ≡ At c.in-At.place
-  found = sym c.with_name.ensures ∙ c.in-At.is
+  found : with_name start.args.state start.args.name.now ≡ Some c.in-Some.place
+  found = sym c.with_name.ensures ∙ c.in-Some.is
 
   kept : Whole start.args.state
   kept = whole start.args.state _ start.well_formed.0
 
-  inside : c.in-At.place < slot_count
+  inside : c.in-Some.place < slot_count
   inside = omega (arith, name-hit start.args.state _ _ found, (in-range kept start.requires).few)
 
 returns-then-command-lt-UNLOAD : tie.Need-returns-then-command-lt-UNLOAD
@@ -57,13 +56,13 @@ returns-then-command-gt-REPLACE c = simp (c.refuse-then-command-gt-REPLACE.ensur
 
 -- the command is one of the four
 module _ (c : tie.After-is_busy) where
-  abbrev at : tie.In-At
+  abbrev at : tie.In-Some
   at = c.before.before.before.before
 
   commands : is_command (start at).args.command ≡ true
   commands = rw (le-leb _ _ c.if-command-lt-UNLOAD.false, le-leb _ _ c.if-command-gt-REPLACE.false)
 
-  busy : is_busy (start at).args.state (start at).args.command (payload_at (start at).args.state at.in-At.place) ≡ c.is_busy.result
+  busy : is_busy (start at).args.state (start at).args.command (payload_at (start at).args.state at.in-Some.place) ≡ c.is_busy.result
   busy = rw (← copied-payload (kept at) _ (inside at)) (sym c.is_busy.ensures)
 
 returns-then-is_busy : tie.Need-returns-then-is_busy

@@ -1,12 +1,12 @@
--- `lines::got` meets its contract: the verdict decides.
+-- `lines::got` meets its contract: the answer decides.
 use mathlib.Core.Path.{◌∙◌}
 use Rattle.answers.specs.Answers.{got_line}
 use Rattle.answers.proofs.lines.got.Goals as goal
 
-pub returns-in-Pass : goal.returns-in-Pass
+pub returns-in-Ok : goal.returns-in-Ok
 unfolding got_line
-returns-in-Pass c = c.status.ensures ∙ rw c.in-Pass.is
+returns-in-Ok c = c.status.ensures ∙ rw c.in-Ok.is
 
-pub returns-in-Refuse : goal.returns-in-Refuse
+pub returns-in-Err : goal.returns-in-Err
 unfolding got_line
-returns-in-Refuse c = c.refusal.ensures ∙ rw c.in-Refuse.is
+returns-in-Err c = c.refusal.ensures ∙ rw c.in-Err.is

@@ -3,10 +3,10 @@ use mathlib.Core.Path.{◌∙◌}
 use Rattle.answers.specs.Answers.{verdict_line}
 use Rattle.answers.proofs.lines.verdict.Goals as goal
 
-pub returns-in-Pass : goal.returns-in-Pass
+pub returns-in-Ok : goal.returns-in-Ok
 unfolding verdict_line
-returns-in-Pass c = c.text.ensures ∙ rw c.in-Pass.is
+returns-in-Ok c = c.text.ensures ∙ rw c.in-Ok.is
 
-pub returns-in-Refuse : goal.returns-in-Refuse
+pub returns-in-Err : goal.returns-in-Err
 unfolding verdict_line
-returns-in-Refuse c = c.refusal.ensures ∙ rw c.in-Refuse.is
+returns-in-Err c = c.refusal.ensures ∙ rw c.in-Err.is

@@ -1,11 +1,14 @@
 -- `edit_of` meets its contract.
+use Rattle.std.proofs.lemmas.Result.{err_from_is_err_and}
 use Rattle.functions.specs.Edits.{edit_of}
 use Rattle.functions.proofs.edits.edit_of.Goals as goal
 
-pub returns-in-At : goal.returns-in-At
+pub returns-in_err-old : goal.returns-in_err-old
 unfolding edit_of
-returns-in-At c = rw (← c.read_record-f.ensures, ← c.old_address.ensures, c.in-At.is, c.edit_from.ensures)
+returns-in_err-old c =
+    let p = err_from_is_err_and c.from_residual.result c.from_residual.ensures.1 in
+    rw (p.1, p.2, ← c.read_record-f.ensures, ← c.old_address.ensures, c.in_err-old.was)
 
-pub returns-in-Refused : goal.returns-in-Refused
+pub returns : goal.returns
 unfolding edit_of
-returns-in-Refused c = rw (← c.read_record-f.ensures, ← c.old_address.ensures, c.in-Refused.is)
+returns c = rw (← c.read_record-f.ensures, ← c.old_address.ensures, c.in_ok-old.was, c.edit_from.ensures)

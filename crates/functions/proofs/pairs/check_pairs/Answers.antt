@@ -1,58 +1,70 @@
 -- `check_pairs` meets its contract. Each loop's invariant: the scan from its number on is the scan from 0 on.
-use Prim.Native.Nat.{◌<◌}
+use Rattle.std.proofs.Common.{Ok}
+use Prim.Native.Nat.{ℕ, ◌<◌, ◌≤◌}
 use mathlib.Core.Path.{◌≡◌, sym, ◌∙◌}
 use mathlib.Core.Bool.{true}
+use mathlib.Core.List.{List}
 use native.Mathlib.Omega.{arith}
-use lib.ListN.{length}
-use Rattle.words.proofs.Scan.{begin, turn, end}
-use Rattle.records.specs.declared.refusal.Verdict.TheVariants.{Pass}
-use Rattle.functions.specs.Pairs.{edit_in, touched, one_pair, pair_rules}
+use lib.ListN.{length, get_or, take}
+use Rattle.std.proofs.lemmas.List.{get_or-take, length-take}
+use Rattle.words.proofs.Scan.{turn, end}
+use Rattle.records.specs.declared.payload.Edit.{Edit}
+use Rattle.records.specs.declared.payload.EditKind.TheVariants.{Jump}
 use Rattle.records.proofs.Edits.{copied}
+use Rattle.functions.specs.Pairs.{edit_in, touched, one_pair, pair_rules}
 use Rattle.functions.proofs.pairs.check_pairs.Goals as goal
-use Rattle.functions.proofs.pairs.check_pairs.Goals.{else-pairs-test, then-pairs-test+then-loop-i-test+then-touching}
+use Rattle.functions.proofs.pairs.check_pairs.Goals.{else-loop-j-test, then-loop-j-test+then-loop-earlier-test+then-touching}
 
-pub pairs-init : goal.pairs-init
-pairs-init c = (omega arith, begin _ _ _)
+-- an edit of the first n, as a loop has it
+listed :
+    (es : List Edit) (n i : ℕ) → i < n → n ≤ length es →
+    edit_in es i ≡ get_or (take n es) i (record { offset = 0; length = 0; kind = Jump 0 })
+listed es n i h g = copied es i (omega arith) ∙ sym (get_or-take n es i _ h)
 
-pub loop-i-init : goal.loop-i-init
-loop-i-init c = (omega arith, begin _ _ _)
+pub loop-earlier-preserved : goal.loop-earlier-preserved
+loop-earlier-preserved c =
+    let es = c.args.edits in
+    let j = c.loop-j.j in
+    let below : c.loop-earlier.earlier-index < j = omega (arith, length-take {A = Edit}) in
+    c.loop-earlier.invariant
+    ∙ turn _ _ _ _ below
+    ∙ rw (listed es j _ below (omega (arith, length-take {A = Edit})), ← c.touching.ensures, c.if-touching.false)
 
-pub loop-i-preserved : goal.loop-i-preserved
-loop-i-preserved c = let es = c.args.edits in
-    let within : c.loop-i.i < length es = omega arith in (
-      omega arith,
-      c.loop-i.invariant.1
-          ∙ turn _ _ _ _ c.loop-i-test.true
-          ∙ rw (copied es c.loop-i.i within, ← c.touching.ensures, c.if-touching.false),
-    )
+pub loop-j-preserved : goal.loop-j-preserved
+loop-j-preserved c =
+    let es = c.args.edits in
+    let below : c.loop-j.j < c.args.count = omega (arith, length-take {A = Edit}) in
+    let past : c.loop-j.j ≤ c.loop-earlier.earlier-index = omega (arith, length-take {A = Edit}) in
+    c.loop-j.invariant
+    ∙ turn _ _ _ _ below
+    ∙ rw (listed es c.args.count _ below (omega arith), c.loop-earlier.invariant, end _ _ _ _ past)
 
-pub pairs-preserved : goal.pairs-preserved
-pairs-preserved c = let es = c.args.edits in
-    let within : c.pairs.j < length es = omega arith in (
-      omega arith,
-      c.pairs.invariant.1
-          ∙ turn _ _ _ _ c.pairs-test.true
-          ∙ rw (copied es c.pairs.j within, c.loop-i.invariant.1, end _ _ _ _ c.loop-i-test.false),
-    )
-
--- the ways out of the outer loop: its own test, and the label, by which the inner loop left after a touch
-pub returns-then-j-count : goal.returns-then-j-count
+-- the ways out of the loops: the label, by which the inner one is left after a touch, and the outer one's end
+pub returns-in-Some : goal.returns-in-Some
 unfolding pair_rules
-returns-then-j-count c = let es = c.args.edits in
-    let j = c.pairs.j in
-    let later : j < length es = omega arith in
-    elim c.pairs-test.branch [
-      | else-pairs-test w ↦ absurd (omega arith)
-      | then-pairs-test+then-loop-i-test+then-touching w ↦
-          let earlier : w.loop-i.i < length es = omega (arith, w.loop-i-test.true) in
+returns-in-Some c =
+    let es = c.args.edits in
+    let j = c.loop-j.j in
+    elim c.loop-j-test.branch [
+      | else-loop-j-test w ↦ absurd (cc)
+      | then-loop-j-test+then-loop-earlier-test+then-touching w ↦
+          let same : c.in-Some.j ≡ j = cc in
+          let below : j < c.args.count = omega (arith, length-take {A = Edit}, w.loop-j-test.true) in
+          let before : w.loop-earlier.earlier-index < j = omega (arith, length-take {A = Edit}, w.loop-earlier-test.true) in
           let touches : touched es (edit_in es j) j ≡ true =
-          rw (copied es j later)
-          (w.loop-i.invariant.1
-          ∙ turn _ _ _ _ w.loop-i-test.true
-          ∙ rw (copied es w.loop-i.i earlier, ← w.touching.ensures, w.if-touching.true)) in
-          rw (c.refused.ensures, c.pairs.invariant.1, turn (one_pair es) Pass _ _ c.if-j-count.true, touches)
+          rw (listed es c.args.count j below (omega arith))
+          (w.loop-earlier.invariant
+          ∙ turn _ _ _ _ before
+          ∙ rw (listed es j _ before (omega arith), ← w.touching.ensures, w.if-touching.true)) in
+          rw (c.refused.ensures, same, c.loop-j.invariant, turn (one_pair es) (Ok tt) _ _ below, touches)
     ]
 
-pub returns : goal.returns
+pub returns-in-None : goal.returns-in-None
 unfolding pair_rules
-returns c = sym (c.pairs.invariant.1 ∙ end _ _ _ _ c.if-j-count.false)
+returns-in-None c =
+    elim c.loop-j-test.branch [
+      | then-loop-j-test+then-loop-earlier-test+then-touching w ↦ absurd (cc)
+      | else-loop-j-test w ↦
+          let past : c.args.count ≤ c.loop-j.j = omega (arith, length-take {A = Edit}, w.loop-j-test.false) in
+          sym (c.loop-j.invariant ∙ end _ _ _ _ past)
+    ]

@@ -12,7 +12,7 @@ use Rattle.in_place.proofs.range.outline.Goals as goal
 use Rattle.in_place.proofs.range.outline.Goals.{In-loop-i}
 
 pub loop-i-init : goal.loop-i-init
-loop-i-init c = (omega arith, fill-begin _ _ slot_count, fill-begin _ _ slot_count)
+loop-i-init c = (fill-begin _ _ slot_count, fill-begin _ _ slot_count)
 
 -- a payload of the list is one of those that there is room for
 below : (c : goal.In-loop-i) → c.loop-i.i < slot_count
@@ -22,22 +22,21 @@ pub loop-i-preserved : goal.loop-i-preserved
 loop-i-preserved c = let b = c.args.b.now in
     let l = c.loop-i in
     let h = below (goal.at.loop-i-preserved c).In-loop-i in (
-      omega arith,
-      rw (l.invariant.1, c.slot.ensures) (fill-turn (slot-at b) 0 slot_count l.i h),
-      rw (l.invariant.2, c.edit_count.ensures) (fill-turn (edits-at b) 0 slot_count l.i h),
+      rw (l.invariant.0, c.slot.ensures) (fill-turn (slot-at b) 0 slot_count l.i h),
+      rw (l.invariant.1, c.edit_count.ensures) (fill-turn (edits-at b) 0 slot_count l.i h),
     )
 
 pub returns : goal.returns
 returns c = let b = c.args.b.now in
     let l = c.loop-i in
     let whole = whole_in b c.requires.0 in
-    let all : l.i ≡ (state_in b).count = omega (arith, l.invariant.0, c.loop-i-test.false, c.count-count.ensures) in
+    let all : l.i ≡ (state_in b).count = omega (arith, c.loop-i-test.false, c.count-count.ensures) in
     record {
       listed = whole.payloads;
       stacked = whole.stack;
       count = c.count-count.ensures;
-      slots = λ i h. rw (l.invariant.1, all) (get_or-filled (slot-at b) 0 slot_count (state_in b).count i 0 h);
-      edits = λ i h. rw (l.invariant.2, all) (get_or-filled (edits-at b) 0 slot_count (state_in b).count i 0 h);
+      slots = λ i h. rw (l.invariant.0, all) (get_or-filled (slot-at b) 0 slot_count (state_in b).count i 0 h);
+      edits = λ i h. rw (l.invariant.1, all) (get_or-filled (edits-at b) 0 slot_count (state_in b).count i 0 h);
       depth = c.depth-depth.ensures;
       stack = c.stack-stack.ensures;
       action = ap (λ (j : Job). j.action) c.job-job.ensures;
@@ -45,39 +44,3 @@ returns c = let b = c.args.b.now in
       time = ap (λ (j : Job). j.time) c.job-job.ensures;
       steps = ap (λ (j : Job). j.steps) c.job-job.ensures;
     }
-
-pub count-count-requires : goal.count-count-requires
-count-count-requires c = c.requires.0
-
-pub depth-depth-requires : goal.depth-depth-requires
-depth-depth-requires c = c.requires.0
-
-pub stack-stack-requires : goal.stack-stack-requires
-stack-stack-requires c = c.requires.0
-
-pub job-job-requires : goal.job-job-requires
-job-job-requires c = c.requires.0
-
-pub slot-requires : goal.slot-requires
-slot-requires c = (c.requires.0, below c)
-
-pub offset_bounds-slots-i : goal.offset_bounds-slots-i
-offset_bounds-slots-i c = omega (arith, below (goal.at.offset_bounds-slots-i c).In-loop-i)
-
-pub bounds-slots-i : goal.bounds-slots-i
-bounds-slots-i c = omega (arith, below (goal.at.bounds-slots-i c).In-loop-i)
-
-pub edit_count-requires : goal.edit_count-requires
-edit_count-requires c = (c.requires.0, below (goal.at.edit_count-requires c).In-loop-i)
-
-pub offset_bounds-edits-i : goal.offset_bounds-edits-i
-offset_bounds-edits-i c = omega (arith, below (goal.at.offset_bounds-edits-i c).In-loop-i)
-
-pub bounds-edits-i : goal.bounds-edits-i
-bounds-edits-i c = omega (arith, below (goal.at.bounds-edits-i c).In-loop-i)
-
-pub overflow_add-i : goal.overflow_add-i
-overflow_add-i c = omega (arith, below (goal.at.overflow_add-i c).In-loop-i)
-
-pub loop-i-smaller : goal.loop-i-smaller
-loop-i-smaller c = omega (arith, c.loop-i-test.true)

@@ -1,5 +1,5 @@
 -- `range::outline` meets its contract: the first `i` payloads are in both arrays.
-use Prim.Native.Nat.{ℕ, ◌≤◌, ◌-◌}
+use Prim.Native.Nat.{ℕ}
 use mathlib.Core.Path.{◌≡◌}
 use mathlib.Core.List.{List}
 use Rattle.words.specs.Scan.{filled}
@@ -15,7 +15,4 @@ abbrev pub edits-at : List ℕ → ℕ → ℕ
 edits-at b i = (payload_at (state_in b) i).edit_count
 
 abbrev pub invariant-loop-i : goal.invariant-loop-i
-invariant-loop-i l = (l.i ≤ l.count) × (l.slots ≡ filled (slot-at l.b) 0 slot_count l.i) × (l.edits ≡ filled (edits-at l.b) 0 slot_count l.i)
-
-abbrev pub decreases-loop-i : goal.decreases-loop-i
-decreases-loop-i l = l.count - l.i
+invariant-loop-i l = (l.slots ≡ filled (slot-at l.b) 0 slot_count l.i) × (l.edits ≡ filled (edits-at l.b) 0 slot_count l.i)

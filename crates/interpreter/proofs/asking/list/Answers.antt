@@ -1,5 +1,7 @@
 -- `asking::list` meets its contract: list's buffers begin as zeros, and what it wrote there is written as lines.
-use Rattle.std.proofs.Common.{◌*◌, replicate, refl, ap, ◌∙◌, arith}
+use Rattle.std.proofs.Common.{◌*◌, ◌≤◌, replicate, refl, ap, ◌∙◌, arith}
+use mathlib.Core.Path.{subst⁻¹}
+use Rattle.std.specs.Prelude.{IfOk}
 use Rattle.records.specs.Limits.{name_max}
 use Rattle.memory.specs.Memory.{slot_count}
 use Rattle.listing.specs.List.{buffers}
@@ -14,7 +16,7 @@ listed-written-requires c = let list = c.list-answer in
     let zeros = buffers (replicate (8 * slot_count) 0) (replicate (name_max * slot_count) 0) (replicate (4 * slot_count) 0) in
     let few = few-listed c.args.state zeros in
     record {
-      line_room_in_bounds = (omega arith, rw (ap (λ x. x.answer.written) list.ensures) few);
+      line_room_in_bounds = (omega arith, subst⁻¹ (λ x. IfOk x.answer (λ y. y.written ≤ slot_count)) list.ensures few);
       slot_count_in_bounds = (omega arith, omega arith, omega arith);
     }
 

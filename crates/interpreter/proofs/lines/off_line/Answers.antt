@@ -1,36 +1,43 @@
 -- `lines::off_line` meets its contract: only a start-up is more than a bad line.
-use Rattle.std.proofs.Common.{sym, ap, ◌∙◌}
-use Rattle.answers.specs.Answers.{bad_line}
-use Rattle.interpreter.specs.Lines.{answer, id_in, off_line}
+use Rattle.std.proofs.Common.{Some, ap, ◌∙◌}
+use Rattle.interpreter.specs.Lines.{id_in, off_line}
 use Rattle.interpreter.specs.Session.{off}
-use Rattle.interpreter.specs.Standing.{memory, unit_in, pending_in, mode_in}
+use Rattle.interpreter.specs.Standing.{memory, unit_in, mode_in}
 use Rattle.interpreter.proofs.Answering.{gives, off-bad, start_gives}
 use Rattle.interpreter.proofs.Readable.{read_as}
 use Rattle.interpreter.proofs.lines.off_line.Goals as goal
 
 pub start-requires-clause-within : goal.start-requires-clause-within
-start-requires-clause-within c = let read = read_as c.args.line.now c.requires.command_value.0 c.in-Start.is in
+start-requires-clause-within c = let read = read_as c.args.line.now c.requires.command_value.0 (c.in-Some.is ∙ ap Some c.in-Start.is) in
     (c.requires.command_value.2, read.1.1, read.1.0)
 
 pub start-requires-clause-line_len_bound : goal.start-requires-clause-line_len_bound
-start-requires-clause-line_len_bound c = let read = read_as c.args.line.now c.requires.command_value.0 c.in-Start.is in
+start-requires-clause-line_len_bound c = let read = read_as c.args.line.now c.requires.command_value.0 (c.in-Some.is ∙ ap Some c.in-Start.is) in
     (read.0, c.requires.list_len.0, c.requires.list_len.1)
 
-pub returns-in-Start : goal.returns-in-Start
+pub returns : goal.returns
 unfolding off_line
-returns-in-Start c = let a = c.args in
+returns c = let a = c.args in
     let m = memory a.text.now a.arena.now a.undo.now a.ids.now a.id.now in
-    let command = ap (off_line a.console.lines a.line.now) c.in-Start.is in
+    let command = ap (off_line a.console.lines a.line.now) (c.in-Some.is ∙ ap Some c.in-Start.is) in
     λ g.
     rw command
     (start_gives a.console a.state c.in-Start.host (id_in a.line.now) m _ _ _ _ g off c.start.ensures
     (λ p. ap (λ mode. mode_in mode (unit_in a.console a.state m) p) c.requires.command_value.1))
 
-pub returns : goal.returns
-returns c = let a = c.args in
+pub returns-in_default : goal.returns-in_default
+unfolding off_line
+returns-in_default c = let a = c.args in
     let m = memory a.text.now a.arena.now a.undo.now a.ids.now a.id.now in
-    let mode = ap (λ mode. mode_in mode (unit_in a.console a.state m)) c.requires.command_value.1 in
+    let command = ap (off_line a.console.lines a.line.now) c.in_default.is in
     λ g.
     gives a.console c.requires.command_value.2 g _ _ _ a.state m _ c.bad.ensures _
-    (off-bad a.console.lines a.line.now a.command c.in_default.not-Start
-    ∙ ap (λ f. answer a.console.lines (f (pending_in a.console g)) (bad_line a.console.lines)) (sym mode))
+    (command ∙ rw c.requires.command_value.1)
+
+pub returns-in_default-command : goal.returns-in_default-command
+returns-in_default-command c = let a = c.args in
+    let m = memory a.text.now a.arena.now a.undo.now a.ids.now a.id.now in
+    let command = ap (off_line a.console.lines a.line.now) c.in-Some.is in
+    λ g.
+    gives a.console c.requires.command_value.2 g _ _ _ a.state m _ c.bad-in_default-command.ensures _
+    (command ∙ off-bad a.console.lines a.line.now c.in-Some.command c.in_default-command.not-Start ∙ rw c.requires.command_value.1)

@@ -1,5 +1,5 @@
 -- `lines::ready_line` meets its contract, command by command.
-use Rattle.std.proofs.Common.{◌≤◌, ◌++◌, length, drop, ap, ◌∙◌, arith, length-take-le, take_at}
+use Rattle.std.proofs.Common.{Some, ◌≤◌, ◌++◌, length, drop, ap, ◌∙◌, arith, length-take-le, take_at}
 use Rattle.interpreter.specs.Lines.{id_in, ready_line, get_line, list_line}
 use Rattle.interpreter.specs.Session.{ready}
 use Rattle.interpreter.specs.Standing.{memory, unit_in, mode_in}
@@ -8,26 +8,26 @@ use Rattle.interpreter.proofs.Readable.{read_as}
 use Rattle.interpreter.proofs.lines.ready_line.Goals as goal
 
 pub start-requires-clause-within : goal.start-requires-clause-within
-start-requires-clause-within c = let read = read_as c.args.line.now c.requires.command_value.0 c.in-Start.is in
+start-requires-clause-within c = let read = read_as c.args.line.now c.requires.command_value.0 (c.in-Some.is ∙ ap Some c.in-Start.is) in
     (c.requires.command_value.2, read.1.1, read.1.0)
 
 pub start-requires-clause-line_len_bound : goal.start-requires-clause-line_len_bound
-start-requires-clause-line_len_bound c = let read = read_as c.args.line.now c.requires.command_value.0 c.in-Start.is in
+start-requires-clause-line_len_bound c = let read = read_as c.args.line.now c.requires.command_value.0 (c.in-Some.is ∙ ap Some c.in-Start.is) in
     (read.0, c.requires.name_len.1, c.requires.name_len.2)
 
 pub open-requires-clause-line_in_bounds : goal.open-requires-clause-line_in_bounds
-open-requires-clause-line_in_bounds c = let read = read_as c.args.line.now c.requires.command_value.0 c.in-Upload.is in
+open-requires-clause-line_in_bounds c = let read = read_as c.args.line.now c.requires.command_value.0 (c.in-Some.is ∙ ap Some c.in-Upload.is) in
     (omega (arith, read.0, c.requires.name_len.0), omega (arith, read.0, c.requires.name_len.1))
 
 pub open-requires-clause-line_value : goal.open-requires-clause-line_value
-open-requires-clause-line_value c = (read_as c.args.line.now c.requires.command_value.0 c.in-Upload.is).1
+open-requires-clause-line_value c = (read_as c.args.line.now c.requires.command_value.0 (c.in-Some.is ∙ ap Some c.in-Upload.is)).1
 
 pub get-requires : goal.get-requires
-get-requires c = let read = read_as c.args.line.now c.requires.command_value.0 c.in-Get.is in
+get-requires c = let read = read_as c.args.line.now c.requires.command_value.0 (c.in-Some.is ∙ ap Some c.in-Get.is) in
     (omega (arith, read, c.requires.name_len.0), c.requires.name_len.2)
 
 pub act-called-requires : goal.act-called-requires
-act-called-requires c = let read = read_as c.args.line.now c.requires.command_value.0 c.in-Act.is in
+act-called-requires c = let read = read_as c.args.line.now c.requires.command_value.0 (c.in-Some.is ∙ ap Some c.in-Act.is) in
     omega (arith, read, c.requires.name_len.0)
 
 pub returns-in-Start : goal.returns-in-Start
@@ -35,7 +35,7 @@ unfolding ready_line
 returns-in-Start c = let a = c.args in
     let m = memory a.text.now a.arena.now a.undo.now a.ids.now a.id.now in
     let u = unit_in a.console a.state m in
-    let command = ap (ready_line a.console.lines u a.line.now) c.in-Start.is in
+    let command = ap (ready_line a.console.lines u a.line.now) (c.in-Some.is ∙ ap Some c.in-Start.is) in
     λ file.
     rw command
     (start_gives a.console a.state c.in-Start.host (id_in a.line.now) m _ _ _ _ _ (ready u) c.start.ensures
@@ -45,7 +45,7 @@ pub returns-in-Upload : goal.returns-in-Upload
 unfolding ready_line
 returns-in-Upload c = let a = c.args in
     let m = memory a.text.now a.arena.now a.undo.now a.ids.now a.id.now in
-    let command = ap (ready_line a.console.lines (unit_in a.console a.state m) a.line.now) c.in-Upload.is in
+    let command = ap (ready_line a.console.lines (unit_in a.console a.state m) a.line.now) (c.in-Some.is ∙ ap Some c.in-Upload.is) in
     let opened = c.«open» in
     let kept-name = opened.auto.name in
     let kept-list = opened.auto.list in
@@ -59,7 +59,7 @@ pub returns-in-Get : goal.returns-in-Get
 unfolding ready_line get_line
 returns-in-Get c = let a = c.args in
     let m = memory a.text.now a.arena.now a.undo.now a.ids.now a.id.now in
-    let command = ap (ready_line a.console.lines (unit_in a.console a.state m) a.line.now) c.in-Get.is in
+    let command = ap (ready_line a.console.lines (unit_in a.console a.state m) a.line.now) (c.in-Some.is ∙ ap Some c.in-Get.is) in
     λ file.
     gives-ready a.console c.requires.command_value.2 _ _ _ _ a.state m _ c.get.ensures c.requires.command_value.1 _ command
 
@@ -67,7 +67,7 @@ pub returns-in-List : goal.returns-in-List
 unfolding ready_line list_line
 returns-in-List c = let a = c.args in
     let m = memory a.text.now a.arena.now a.undo.now a.ids.now a.id.now in
-    let command = ap (ready_line a.console.lines (unit_in a.console a.state m) a.line.now) c.in-List.is in
+    let command = ap (ready_line a.console.lines (unit_in a.console a.state m) a.line.now) (c.in-Some.is ∙ ap Some c.in-List.is) in
     λ file.
     gives-ready a.console c.requires.command_value.2 _ _ _ _ a.state m _ c.list.ensures c.requires.command_value.1 _ command
 
@@ -75,7 +75,7 @@ pub returns-in-Act : goal.returns-in-Act
 unfolding ready_line
 returns-in-Act c = let a = c.args in
     let m = memory a.text.now a.arena.now a.undo.now a.ids.now a.id.now in
-    let command = ap (ready_line a.console.lines (unit_in a.console a.state m) a.line.now) c.in-Act.is in
+    let command = ap (ready_line a.console.lines (unit_in a.console a.state m) a.line.now) (c.in-Some.is ∙ ap Some c.in-Act.is) in
     let act = c.act-called in
     λ file.
     gives-ready a.console c.requires.command_value.2 _ _ _ _ act.result.state
@@ -86,7 +86,7 @@ pub returns-in-Report : goal.returns-in-Report
 unfolding ready_line
 returns-in-Report c = let a = c.args in
     let m = memory a.text.now a.arena.now a.undo.now a.ids.now a.id.now in
-    let command = ap (ready_line a.console.lines (unit_in a.console a.state m) a.line.now) c.in-Report.is in
+    let command = ap (ready_line a.console.lines (unit_in a.console a.state m) a.line.now) (c.in-Some.is ∙ ap Some c.in-Report.is) in
     λ file.
     gives-ready a.console c.requires.command_value.2 _ _ _ _ c.report.result.state m _ c.told-in-Report.ensures
     c.requires.command_value.1 _ (command ∙ called-line a.console a.state m c.report.result _ c.report.ensures)
@@ -95,7 +95,7 @@ pub returns-in-Tick : goal.returns-in-Tick
 unfolding ready_line
 returns-in-Tick c = let a = c.args in
     let m = memory a.text.now a.arena.now a.undo.now a.ids.now a.id.now in
-    let command = ap (ready_line a.console.lines (unit_in a.console a.state m) a.line.now) c.in-Tick.is in
+    let command = ap (ready_line a.console.lines (unit_in a.console a.state m) a.line.now) (c.in-Some.is ∙ ap Some c.in-Tick.is) in
     λ file.
     gives-ready a.console c.requires.command_value.2 _ _ _ _ c.tick.result.state m _ c.told-in-Tick.ensures
     c.requires.command_value.1 _ (command ∙ called-line a.console a.state m c.tick.result _ c.tick.ensures)
@@ -104,7 +104,7 @@ pub returns-in-Work : goal.returns-in-Work
 unfolding ready_line
 returns-in-Work c = let a = c.args in
     let m = memory a.text.now a.arena.now a.undo.now a.ids.now a.id.now in
-    let command = ap (ready_line a.console.lines (unit_in a.console a.state m) a.line.now) c.in-Work.is in
+    let command = ap (ready_line a.console.lines (unit_in a.console a.state m) a.line.now) (c.in-Some.is ∙ ap Some c.in-Work.is) in
     let work = c.work-called in
     let within : a.console.text ≤ length a.text.now = omega (arith, c.requires.command_value.2.text, c.requires.lends.text) in
     let size = work.auto.text ∙ length-take-le a.console.text a.text.now within in
@@ -116,10 +116,10 @@ returns-in-Work c = let a = c.args in
     ∙ work-line a.console a.state m work.result _ whole _ work.ensures
     (take_at work.new.text (drop a.console.text a.text.now) a.console.text size))
 
-pub returns-in-Unreadable : goal.returns-in-Unreadable
+pub returns-in_default : goal.returns-in_default
 unfolding ready_line
-returns-in-Unreadable c = let a = c.args in
+returns-in_default c = let a = c.args in
     let m = memory a.text.now a.arena.now a.undo.now a.ids.now a.id.now in
-    let command = ap (ready_line a.console.lines (unit_in a.console a.state m) a.line.now) c.in-Unreadable.is in
+    let command = ap (ready_line a.console.lines (unit_in a.console a.state m) a.line.now) c.in_default.is in
     λ file.
     gives-ready a.console c.requires.command_value.2 _ _ _ _ a.state m _ c.bad.ensures c.requires.command_value.1 _ command

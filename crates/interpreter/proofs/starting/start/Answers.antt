@@ -8,12 +8,12 @@ use Rattle.interpreter.proofs.starting.start.Goals as goal
 pub set_up-called-requires : goal.set_up-called-requires
 set_up-called-requires c = (omega (arith, c.requires.within.1, c.requires.lends.text), lent-stores _ c.requires.lends)
 
-pub returns-in-Refuse : goal.returns-in-Refuse
+pub returns-in-Err : goal.returns-in-Err
 unfolding id_in
-returns-in-Refuse c = let a = c.args in
+returns-in-Err c = let a = c.args in
     let x = set-up-with c.keep_hex-n.ensures.same c.set_up-called.ensures in
     stands-starts a.console a.state a.host _ (memory a.text.now a.arena.now a.undo.now a.ids.now a.id.now)
-    c.set_up-called.result _ _ _ x c.requires.within.0 _ c.in-Refuse.is _ _ _ c.verdict-written.ensures
+    c.set_up-called.result _ _ _ x c.requires.within.0 _ c.in-Err.is _ _ _ c.verdict-written.ensures
 
 -- the build-id of the line has room
 pub begin-requires : goal.begin-requires

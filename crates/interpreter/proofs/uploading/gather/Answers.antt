@@ -10,7 +10,7 @@ pub returns : goal.returns
 returns c = let a = c.args in
     let at = a.console.file in
     let line = a.line.now in
-    let least = c.least-n in
+    let least = c.min-n in
     let half = length line / 2 in
     let size = taken-size line least.result (omega (arith, least.ensures)) in
     let whole = sym (ap length (hex-all line half refl)) ∙ taken-size line half (omega arith) in

@@ -1,13 +1,11 @@
 -- `symbol_cell` meets its contract.
-use native.Mathlib.Omega.{arith}
 use borrow.Author.Tests.{eq-eqb, ne_eqb, le-leb, lt-leb}
-use Rattle.linking.specs.Kept.{decided}
 use Rattle.linking.specs.Symbols.{value_by}
 use Rattle.linking.proofs.kept.symbol_cell.Goals as goal
 
 pub returns-then-index-eq65521 : goal.returns-then-index-eq65521
 unfolding value_by
-returns-then-index-eq65521 c = λ l stands. decided (omega arith) (rw (eq-eqb _ 0xfff1 c.if-index-eq65521.true))
+returns-then-index-eq65521 c = λ l stands. rw (eq-eqb _ 0xfff1 c.if-index-eq65521.true)
 
 pub returns-then-index-eq0 : goal.returns-then-index-eq0
 unfolding value_by
@@ -17,8 +15,7 @@ returns-then-index-eq0 c = λ l stands.
 pub returns-then-index-ge65280 : goal.returns-then-index-ge65280
 unfolding value_by
 returns-then-index-ge65280 c = λ l stands.
-    decided (omega arith)
-    (simp (ne_eqb _ 0xfff1 c.if-index-eq65521.false, ne_eqb _ 0 c.if-index-eq0.false, le-leb 0xff00 _ c.if-index-ge65280.true))
+    simp (ne_eqb _ 0xfff1 c.if-index-eq65521.false, ne_eqb _ 0 c.if-index-eq0.false, le-leb 0xff00 _ c.if-index-ge65280.true)
 
 pub returns : goal.returns
 unfolding value_by

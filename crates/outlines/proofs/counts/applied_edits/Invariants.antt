@@ -1,4 +1,4 @@
--- `counts::applied_edits` meets its contract: the total is of the stack from `i` on.
+-- `counts::applied_edits` meets its contract: the total, and the edits of the stack from this slot on, are all.
 use Prim.Native.Nat.{◌+◌, ◌*◌, ◌^◌, ◌≤◌}
 use mathlib.Core.Path.{◌≡◌}
 use lib.ListN.{length, drop}
@@ -8,10 +8,7 @@ use Rattle.state.specs.declared.state.State.{State}
 use Rattle.outlines.specs.Outline.{Outlines}
 use Rattle.outlines.proofs.counts.applied_edits.Given as goal
 
-abbrev pub invariant-loop-i : goal.invariant-loop-i
-invariant-loop-i l = (l.i ≤ l.outline.depth)
-    × ((s : State) → Outlines l.outline s → l.total ≡ length (removals_in s (drop l.i (stack_of s))))
-    × (l.total + 2 ^ 32 * l.i ≤ 2 ^ 32 * l.outline.depth)
-
-abbrev pub decreases-loop-i : goal.decreases-loop-i
-decreases-loop-i l = l.i
+abbrev pub invariant-loop-slot : goal.invariant-loop-slot
+invariant-loop-slot l = (l.total ≤ 2 ^ 32 * l.slot-index)
+    × ((s : State) → Outlines l.fn.outline s →
+    l.total + length (removals_in s (drop l.slot-index (stack_of s))) ≡ length (removals_in s (stack_of s)))

@@ -1,5 +1,5 @@
 -- `outline::outline_of` meets its contract: the first `i` payloads are in both arrays.
-use Prim.Native.Nat.{ℕ, ◌≤◌, ◌-◌}
+use Prim.Native.Nat.{ℕ}
 use mathlib.Core.Path.{◌≡◌}
 use Rattle.words.specs.Scan.{filled}
 use Rattle.memory.specs.Memory.{slot_count}
@@ -14,7 +14,4 @@ abbrev pub edits-at : State → ℕ → ℕ
 edits-at s i = (payload_at s i).edit_count
 
 abbrev pub invariant-loop-i : goal.invariant-loop-i
-invariant-loop-i l = (l.i ≤ l.state.count) × (l.slots ≡ filled (slot-at l.state) 0 slot_count l.i) × (l.edits ≡ filled (edits-at l.state) 0 slot_count l.i)
-
-abbrev pub decreases-loop-i : goal.decreases-loop-i
-decreases-loop-i l = l.state.count - l.i
+invariant-loop-i l = (l.slots ≡ filled (slot-at l.fn.state) 0 slot_count l.i) × (l.edits ≡ filled (edits-at l.fn.state) 0 slot_count l.i)

@@ -1,13 +1,15 @@
 -- `outline::with_slot` meets its contract: what is found from payload `i` on is what is found from the first on.
+use Rattle.std.proofs.Common.{Some}
 use Prim.Native.Nat.{ℕ, ◌+◌, ◌≤◌, ◌<◌}
 use mathlib.Core.Bool.{cond}
 use mathlib.Core.Path.{◌≡◌, refl, sym, ◌∙◌}
 use native.Mathlib.Omega.{arith}
 use borrow.Author.Tests.{eq-eqb, ne_eqb}
 use lib.Dec.{eqb}
-use lib.ListN.{length, get_or, drop}
+use lib.ListN.{length, get_or, take, drop}
+use lib.Seq.{length-take-le}
+use Rattle.std.proofs.lemmas.List.{get_or-take}
 use Rattle.words.specs.Find.{where_from}
-use Rattle.words.specs.declared.bytes.Found.TheVariants.{At}
 use Rattle.words.proofs.Find.{where-turn, where-end}
 use Rattle.records.specs.Payload.{empty}
 use Rattle.state.specs.Find.{with_slot, is_in}
@@ -20,7 +22,7 @@ use Rattle.outlines.proofs.outline.with_slot.Goals.{In-loop-i}
 
 pub loop-i-init : goal.loop-i-init
 unfolding with_slot
-loop-i-init c = (omega arith, λ s h. refl)
+loop-i-init c = λ s h. refl
 
 -- at the payload in question
 module _ (c : goal.In-loop-i) where
@@ -32,29 +34,34 @@ module _ (c : goal.In-loop-i) where
 
   turn :
       (s : State) → Outlines o s → (slot : ℕ) →
-      where_from (is_in slot) i (drop i (loaded s)) ≡ cond (eqb (get_or o.slots i 0) slot) (At i) (where_from (is_in slot) (i + 1) (drop (i + 1) (loaded s)))
+      where_from (is_in slot) i (drop i (loaded s))
+      ≡ cond (eqb (get_or (take o.count o.slots) i 0) slot) (Some i) (where_from (is_in slot) (i + 1) (drop (i + 1) (loaded s)))
   turn s h slot =
+      let counted : i < o.count = omega (arith, length-take-le {A = ℕ}) in
       let here : i < s.count = omega (arith, h.count) in
       let fits : s.count ≤ length s.payloads = omega (arith, h.count, h.listed) in
-      rw (h.slots i here) (where-turn (is_in slot) s.payloads s.count i fits empty here)
+      rw (get_or-take o.count o.slots i 0 counted, h.slots i here) (where-turn (is_in slot) s.payloads s.count i fits empty here)
 
-pub returns-then-outline-i : goal.returns-then-outline-i
-returns-then-outline-i c = (
-  λ s h. sym (c.loop-i.invariant.1 s h ∙ turn (goal.at.returns-then-outline-i c).In-loop-i s h _ ∙ rw (eq-eqb _ _ c.if-outline-i.true)),
+pub returns-then-used-slot : goal.returns-then-used-slot
+returns-then-used-slot c = (
+  λ s h. sym (c.loop-i.invariant s h ∙ turn (goal.at.returns-then-used-slot c).In-loop-i s h _ ∙ rw (eq-eqb _ _ c.if-used-slot.true)),
   λ j e.
       let same : c.loop-i.i ≡ j = cc in
-      omega arith,
+      omega (arith, length-take-le {A = ℕ}),
 )
 
 pub loop-i-preserved : goal.loop-i-preserved
-loop-i-preserved c = (omega arith, λ s h. c.loop-i.invariant.1 s h ∙ turn (goal.at.loop-i-preserved c).In-loop-i s h _ ∙ rw (ne_eqb _ _ c.if-outline-i.false))
+loop-i-preserved c = λ s h.
+    c.loop-i.invariant s h
+    ∙ turn (goal.at.loop-i-preserved c).In-loop-i s h _
+    ∙ rw (ne_eqb _ _ c.if-used-slot.false)
 
 pub returns : goal.returns
 returns c = (
   λ s h.
       let fits : s.count ≤ length s.payloads = omega (arith, h.count, h.listed) in
-      let ended : s.count ≤ c.loop-i.i = omega (arith, h.count) in
-      sym (c.loop-i.invariant.1 s h ∙ where-end _ _ _ _ fits ended),
+      let ended : s.count ≤ c.loop-i.i = omega (arith, h.count, length-take-le {A = ℕ}) in
+      sym (c.loop-i.invariant s h ∙ where-end _ _ _ _ fits ended),
   λ j e.
       let never : ◌≡◌ {A = ℕ} 0 1 = cc in
       absurd (omega arith),

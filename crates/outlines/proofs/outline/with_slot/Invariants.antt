@@ -1,5 +1,4 @@
 -- `outline::with_slot` meets its contract: what is found from payload `i` on is what is found from the first on.
-use Prim.Native.Nat.{◌-◌, ◌≤◌}
 use mathlib.Core.Path.{◌≡◌}
 use lib.ListN.{drop}
 use Rattle.words.specs.Find.{where_from}
@@ -10,7 +9,4 @@ use Rattle.outlines.specs.Outline.{Outlines}
 use Rattle.outlines.proofs.outline.with_slot.Given as goal
 
 abbrev pub invariant-loop-i : goal.invariant-loop-i
-invariant-loop-i l = (l.i ≤ l.outline.count) × ((s : State) → Outlines l.outline s → with_slot s l.slot ≡ where_from (is_in l.slot) l.i (drop l.i (loaded s)))
-
-abbrev pub decreases-loop-i : goal.decreases-loop-i
-decreases-loop-i l = l.outline.count - l.i
+invariant-loop-i l = (s : State) → Outlines l.fn.outline s → with_slot s l.slot ≡ where_from (is_in l.slot) l.i (drop l.i (loaded s))

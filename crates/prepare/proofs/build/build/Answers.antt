@@ -1,15 +1,13 @@
 -- `build::build` meets its contract: each stage answers as its definition says, and the first that refuses ends it.
-use mathlib.Core.Path.{◌≡◌, refl, sym, ap, ◌∙◌}
-use native.Mathlib.Omega.{arith}
-use lib.ListN.{length}
+use Rattle.std.proofs.Common.{◌≡◌, refl, sym, ap, ◌∙◌, length, arith}
+use Rattle.std.proofs.lemmas.Result.{err_from_is_err_and}
 use Rattle.records.specs.Limits.{placed_max}
 use Rattle.payload.proofs.ReadingLaws.{read-passes}
-use Rattle.placement.specs.Placement.{placed_slot}
 use Rattle.placement.proofs.PlacementLaws.{length_none}
 use Rattle.acceptance.specs.Stages.{Setting, setting, relocated_of}
 use Rattle.prepare.proofs.BuildLaws.{
   built-by,
-  place-told,
+  place-refuses,
   InSlot,
   in-slot,
   to-relocate,
@@ -19,110 +17,93 @@ use Rattle.prepare.proofs.BuildLaws.{
   part-fits,
   part_length,
   to-patch,
-  patch-told,
+  patch-refuses,
+  patch-passes,
   all-built,
 }
 use Rattle.prepare.proofs.build.build.Goals as goal
-use Rattle.prepare.proofs.build.build.Goals.{After-place-placement, After-relocate-relocated}
+use Rattle.prepare.proofs.build.build.Goals.{In_ok-placement, After-relocate}
 
-pub place-placement-requires : goal.place-placement-requires
-place-placement-requires c = (rw c.requires.0.read (read-passes c.args.file.now _ c.requires.0.passes).head.few, c.requires.2)
+pub place-requires : goal.place-requires
+place-requires c = (rw c.requires.0.read (read-passes c.args.file.now _ c.requires.0.passes).head.few, c.requires.2)
 
--- ---- where placement has answered
+pub returns-in_err-placement : goal.returns-in_err-placement
+returns-in_err-placement c =
+    let p = err_from_is_err_and c.from_residual.result c.from_residual.ensures.1 in
+    rw (p.1, p.2) (place-refuses (setting c.args.host c.args.list.now) c.requires.0 (rw (c.in_err-placement.was) at c.place.ensures))
 
-whole : (c : goal.After-place-placement) → length c.place-placement.new.image ≡ placed_max
-whole c = c.place-placement.auto.image ∙ ap length c.requires.2 ∙ length_none
+-- ---- where placement has passed
 
-pub nothing_built-requires : goal.nothing_built-requires
-nothing_built-requires c = whole (goal.at.nothing_built-requires c).After-place-placement
+abbrev aim : goal.In_ok-placement → Setting
+aim c = setting c.args.host c.args.list.now
 
-pub returns-in-Refuse : goal.returns-in-Refuse
-returns-in-Refuse c =
-    c.nothing_built.ensures
-    ∙ sym (built-by _ _ (place-told c.requires.0 c.place-placement.ensures c.in-Refuse.is) refl refl)
+placed : (c : goal.In_ok-placement) → InSlot (aim c) c.args.file.now c.args.reading c.in_ok-placement.placement c.place.new.image
+placed c = in-slot c.requires.0 (rw (c.in_ok-placement.was) at c.place.ensures)
 
--- where it has passed
-pub relocate-relocated-requires : goal.relocate-relocated-requires
-relocate-relocated-requires c = to-relocate (in-slot {t = setting c.args.host c.args.list.now} c.requires.0 c.place-placement.ensures c.in_default.is)
+pub relocate-requires : goal.relocate-requires
+relocate-requires c = to-relocate (placed (goal.at.relocate-requires c).In_ok-placement)
 
 -- ---- where relocation has answered
 
-abbrev aim : goal.After-relocate-relocated → Setting
-aim c = setting c.args.host c.args.list.now
+made : (c : goal.After-relocate) → c.relocate.new.image ≡ (relocated_of (setting c.args.host c.args.list.now) c.args.file.now).image
+made c = image_is (placed (goal.at.After-relocate c).In_ok-placement) c.relocate.ensures
 
-placed :
-    (c : goal.After-relocate-relocated) →
-    InSlot (aim c) c.args.file.now c.args.reading (placed_slot c.place-placement.result c.place-placement.new.image)
-placed c = in-slot c.requires.0 c.place-placement.ensures c.in_default.is
+still-whole : (c : goal.After-relocate) → length c.relocate.new.image ≡ placed_max
+still-whole c = c.relocate.auto.image ∙ c.place.auto.image ∙ ap length c.requires.2 ∙ length_none
 
-made : (c : goal.After-relocate-relocated) → c.relocate-relocated.new.image ≡ (relocated_of (aim c) c.args.file.now).image
-made c = image_is (placed c) c.relocate-relocated.ensures
+pub nothing_built-requires : goal.nothing_built-requires
+nothing_built-requires c = still-whole (goal.at.nothing_built-requires c).After-relocate
 
-still-whole : (c : goal.After-relocate-relocated) → length c.relocate-relocated.new.image ≡ placed_max
-still-whole c = c.relocate-relocated.auto.image ∙ c.place-placement.auto.image ∙ ap length c.requires.2 ∙ length_none
-
-pub nothing_built-requires-in-Refuse-relocated : goal.nothing_built-requires-in-Refuse-relocated
-nothing_built-requires-in-Refuse-relocated c =
-    still-whole (goal.at.nothing_built-requires-in-Refuse-relocated c).After-relocate-relocated
-
-pub returns-in-Refuse-relocated : goal.returns-in-Refuse-relocated
-returns-in-Refuse-relocated c =
-    let p = placed (goal.at.returns-in-Refuse-relocated c).After-relocate-relocated in
-    c.nothing_built-in-Refuse-relocated.ensures
-    ∙ sym (built-by _ _ p.fits (relocate-told p c.relocate-relocated.ensures c.in-Refuse-relocated.is) refl)
+pub returns-in-Err : goal.returns-in-Err
+returns-in-Err c =
+    let p = placed (goal.at.returns-in-Err c).In_ok-placement in
+    c.nothing_built.ensures ∙ sym (built-by _ _ p.fits (relocate-told p c.relocate.ensures c.in-Err.is) refl)
 
 -- ---- where it has passed: the records' index is one of the table
 
 pub offset_bounds-offsets-records : goal.offset_bounds-offsets-records
-offset_bounds-offsets-records c =
-    omega (arith, index_below (placed (goal.at.offset_bounds-offsets-records c).After-relocate-relocated))
+offset_bounds-offsets-records c = omega (arith, index_below (placed (goal.at.offset_bounds-offsets-records c).In_ok-placement))
 
 pub bounds-offsets-records : goal.bounds-offsets-records
-bounds-offsets-records c = index_below (placed (goal.at.bounds-offsets-records c).After-relocate-relocated)
+bounds-offsets-records c = index_below (placed (goal.at.bounds-offsets-records c).In_ok-placement)
 
 pub record_count-count-requires : goal.record_count-count-requires
-record_count-count-requires c = index_below (placed (goal.at.record_count-count-requires c).After-relocate-relocated)
+record_count-count-requires c = index_below (placed (goal.at.record_count-count-requires c).In_ok-placement)
 
 pub slice_bounds-read_functions-end : goal.slice_bounds-read_functions-end
 slice_bounds-read_functions-end c =
-    let at = (goal.at.slice_bounds-read_functions-end c).After-relocate-relocated in
-    part-fits (placed at) (made at)
+    let at = goal.at.slice_bounds-read_functions-end c in
+    part-fits (placed at.In_ok-placement) (made at.After-relocate)
 
 pub slice_bounds-read_functions-end-2 : goal.slice_bounds-read_functions-end-2
 slice_bounds-read_functions-end-2 c =
-    let at = (goal.at.slice_bounds-read_functions-end-2 c).After-relocate-relocated in
-    part_length (placed at) (made at)
+    let at = goal.at.slice_bounds-read_functions-end-2 c in
+    part_length (placed at.In_ok-placement) (made at.After-relocate)
 
-pub read_functions-found-requires : goal.read_functions-found-requires
-read_functions-found-requires c =
-    let at = (goal.at.read_functions-found-requires c).After-relocate-relocated in
-    let asked = to-patch (placed at) (made at) c.record_count-count.ensures in
+pub read_functions-requires : goal.read_functions-requires
+read_functions-requires c =
+    let at = goal.at.read_functions-requires c in
+    let asked = to-patch (placed at.In_ok-placement) (made at.After-relocate) c.record_count-count.ensures in
     (asked.0, asked.1, c.requires.1)
 
-pub nothing_built-requires-in-Refuse-found_verdict : goal.nothing_built-requires-in-Refuse-found_verdict
-nothing_built-requires-in-Refuse-found_verdict c =
-    still-whole (goal.at.nothing_built-requires-in-Refuse-found_verdict c).After-relocate-relocated
+pub nothing_built-requires-in-Err-read_functions : goal.nothing_built-requires-in-Err-read_functions
+nothing_built-requires-in-Err-read_functions c =
+    still-whole (goal.at.nothing_built-requires-in-Err-read_functions c).After-relocate
 
-pub shape_of-image-in-Refuse-found_verdict : goal.shape_of-image-in-Refuse-found_verdict
-shape_of-image-in-Refuse-found_verdict c =
-    c.nothing_built-in-Refuse-found_verdict.auto.image ∙ c.relocate-relocated.auto.image ∙ c.place-placement.auto.image
+pub returns-in-Err-read_functions : goal.returns-in-Err-read_functions
+returns-in-Err-read_functions c =
+    let at = goal.at.returns-in-Err-read_functions c in
+    let p = placed at.In_ok-placement in
+    let passed = relocate-told p c.relocate.ensures c.in_default.is in
+    let told = patch-refuses p (made at.After-relocate) c.record_count-count.ensures c.read_functions.ensures c.in-Err-read_functions.is in
+    c.nothing_built-in-Err-read_functions.ensures ∙ sym (built-by _ _ p.fits passed told)
 
-pub returns-in-Refuse-found_verdict : goal.returns-in-Refuse-found_verdict
-returns-in-Refuse-found_verdict c =
-    let at = (goal.at.returns-in-Refuse-found_verdict c).After-relocate-relocated in
-    let p = placed at in
-    let passed = relocate-told p c.relocate-relocated.ensures c.in_default-relocated.is in
-    let told =
-    patch-told p (made at) c.record_count-count.ensures c.read_functions-found.ensures c.in-Refuse-found_verdict.is in
-    c.nothing_built-in-Refuse-found_verdict.ensures ∙ sym (built-by _ _ p.fits passed told)
-
-pub returns : goal.returns
-returns c =
-    let at = (goal.at.returns c).After-relocate-relocated in
-    let p = placed at in
-    let passed = relocate-told p c.relocate-relocated.ensures c.in_default-relocated.is in
+pub returns-in-Ok : goal.returns-in-Ok
+returns-in-Ok c =
+    let at = goal.at.returns-in-Ok c in
+    let p = placed at.In_ok-placement in
+    let passed = relocate-told p c.relocate.ensures c.in_default.is in
     let counted = c.record_count-count.ensures in
-    let found = c.read_functions-found.ensures in
-    let told = c.in_default-found_verdict.is in
-    all-built p (made at) counted found told
-    ∙ sym (built-by _ _ p.fits passed (patch-told p (made at) counted found told))
+    let found = c.read_functions.ensures in
+    all-built p (made at.After-relocate) counted found c.in-Ok.is
+    ∙ sym (built-by _ _ p.fits passed (patch-passes p (made at.After-relocate) counted found c.in-Ok.is))

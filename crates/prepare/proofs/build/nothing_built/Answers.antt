@@ -8,4 +8,4 @@ pub fill-requires : goal.fill-requires
 fill-requires c = omega (arith, c.requires)
 
 pub returns : goal.returns
-returns c = rw (c.none-none.ensures, c.fill.ensures ∙ cleared _ c.requires)
+returns c = rw (c.fill.ensures ∙ cleared _ c.requires)

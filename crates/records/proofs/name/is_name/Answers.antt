@@ -27,5 +27,5 @@ returns c = simp (
   le-leb _ _ c.if-name-lt-NAME_MIN.false,
   le-leb _ _ c.if-name-gt-NAME_MAX.false,
   sym c.find_zero.ensures,
-  c.in-At.is,
+  c.in-Some.is,
 )

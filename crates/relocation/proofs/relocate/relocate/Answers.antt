@@ -1,4 +1,5 @@
 -- `relocate` meets its contract: at each turn the sections from `i` on, over the bytes as they are, give what all of them give.
+use Rattle.std.proofs.Common.{Ok}
 use Prim.Native.Nat.{ℕ, ◌+◌, ◌-◌, ◌<◌}
 use mathlib.Core.Path.{◌≡◌, refl, sym, ap, subst⁻¹, ◌∙◌}
 use mathlib.Core.Bool.{true}
@@ -7,12 +8,13 @@ use native.Mathlib.Nat.{le_trans}
 use native.Mathlib.Omega.{arith}
 use lib.ListN.{length, get_or, length-replicate}
 use Rattle.records.specs.Limits.{sections_max}
-use Rattle.records.specs.declared.refusal.Verdict.TheVariants.{Pass}
 use Rattle.machine.specs.Host.{host_machine}
 use Rattle.object.specs.Sections.{section_in, no_entry}
 use Rattle.object.specs.declared.sections.SectionEntry.{SectionEntry}
 use Rattle.linking.specs.Kept.{Kept}
 use Rattle.linking.specs.Linking.{Linking}
+use Rattle.linking.specs.declared.kept.Cell.{Cell}
+use Rattle.linking.specs.declared.kept.Cell.TheVariants.{Known}
 use Rattle.relocation.specs.Relocating.{Relocated, relocated, continue, is_made_in, is_relocating, area_of, AreaFits, relocate_section, relocate_from, relocate_all, linking_of, Given}
 use Rattle.relocation.specs.declared.fields.Area.{Area}
 use Rattle.relocation.proofs.RelocateLaws.{relocating-kind, made-in-target, target_is, target_below, area-at, contents-short, section-made, section-passed, sections-turn, sections-end}
@@ -27,7 +29,7 @@ use Rattle.relocation.proofs.relocate.relocate.Goals.{
 pub read_symbols-requires : goal.read_symbols-requires
 unfolding no_entry
 read_symbols-requires c =
-    (length-replicate {A = ℕ} _ 0, rw c.contents_of.ensures (le_trans (contents-short _ _) c.requires.0.short))
+    (length-replicate {A = Cell} _ (Known 0), rw c.contents_of.ensures (le_trans (contents-short _ _) c.requires.0.short))
 
 pub loop-i-init : goal.loop-i-init
 unfolding relocate_all no_entry
@@ -39,7 +41,7 @@ loop-i-init c =
     c.read_symbols.ensures _
     (record { address = refl; few = c.requires.0.few; places = sym c.requires.1 })
     (sym c.contents_of.ensures) in
-    (omega arith, refl, rw all, kept)
+    (refl, rw all, kept)
 
 -- its target is a section of the table
 in_table : (c : goal.After-target_of-target) → c.target_of-target.result < sections_max
@@ -77,7 +79,7 @@ given :
 unfolding no_entry
 given c = record {
   address = refl;
-  sought = record { kept = c.loop-i.invariant.3; names = sym c.contents_of-strings.ensures; listed = refl };
+  sought = record { kept = c.loop-i.invariant.2; names = sym c.contents_of-strings.ensures; listed = refl };
 }
 
 -- what it gives
@@ -92,7 +94,7 @@ turn :
     let i = c.loop-i.i in
     relocate_all (host_machine a.host) (against c) a.file.now a.image.now
     ≡ continue (gives c) (from (i + 1) (a.reading.count - (i + 1)))
-turn c = c.loop-i.invariant.2 ∙ sections-turn _ _ _ _ _ _ c.loop-i-test.true
+turn c = c.loop-i.invariant.1 ∙ sections-turn _ _ _ _ _ _ c.loop-i-test.true
 
 -- the test, and past it: its relocations are made, in the area of its target
 relocates : (c : goal.After-is_relocating) → c.is_relocating.result ≡ is_relocating (sections c) (section c)
@@ -118,7 +120,7 @@ area-is c made =
     area-at (sections c) _ _ (c.target_of-target.ensures ∙ target_is (sections c) (section c) made) c.requires.1 below
 
 pub slice_bounds-relocate_entries-end : goal.slice_bounds-relocate_entries-end
-slice_bounds-relocate_entries-end c = sym c.loop-i.invariant.3.all
+slice_bounds-relocate_entries-end c = sym c.loop-i.invariant.2.all
 
 pub relocate_entries-v-requires : goal.relocate_entries-v-requires
 unfolding no_entry
@@ -128,21 +130,21 @@ relocate_entries-v-requires c =
     let linkable = c.requires.0 in
     record {
       image_len = (
-        c.loop-i.invariant.1 ∙ linkable.whole,
+        c.loop-i.invariant.0 ∙ linkable.whole,
         subst⁻¹ (λ (a : Area). AreaFits a) (area-is at made) (linkable.inside _ c.loop-i-test.true made),
         rw c.contents_of-entries.ensures (le_trans (contents-short _ _) linkable.short),
       );
       given = (_, given at);
     }
 
-pub returns-in-Refuse : goal.returns-in-Refuse
+pub returns-in-Err : goal.returns-in-Err
 unfolding no_entry
-returns-in-Refuse c =
-    let at = (goal.at.returns-in-Refuse c).After-is_relocating in
+returns-in-Err c =
+    let at = (goal.at.returns-in-Err c).After-is_relocating in
     let made = sym (relocates at) ∙ c.if-is_relocating.true in
     let gave = (c.relocate_entries-v.ensures _ (given at)).0 in
     let refused = section-made _ _ _ _ _ made (area-is at made) c.contents_of-entries.ensures gave in
-    sym (turn at ∙ rw (refused, c.in-Refuse.is))
+    sym (turn at ∙ rw (refused, c.in-Err.is))
 
 pub loop-i-preserved : goal.loop-i-preserved
 unfolding no_entry
@@ -151,7 +153,7 @@ loop-i-preserved c =
     -- where nothing was refused: the bytes' length, what the section gives, and the cells
     let passed :
     (length c.if-is_relocating.image ≡ length c.loop-i.image)
-    × (gives at ≡ relocated Pass c.if-is_relocating.image)
+    × (gives at ≡ relocated (Ok tt) c.if-is_relocating.image)
     × Kept (against at) c.if-is_relocating.cells =
     elim c.if-is_relocating.branch [
       | then-is_relocating+in_default w ↦
@@ -166,12 +168,12 @@ loop-i-preserved c =
           rw (w.image-is, w.cells-is) (
             refl,
             section-passed _ _ _ _ _ (sym (relocates at) ∙ w.if-is_relocating.false),
-            c.loop-i.invariant.3,
+            c.loop-i.invariant.2,
           )
     ] in
-    (omega arith, passed.0 ∙ c.loop-i.invariant.1, turn at ∙ rw passed.1, passed.2)
+    (passed.0 ∙ c.loop-i.invariant.0, turn at ∙ rw passed.1, passed.2)
 
 -- ---- the end
 
 pub returns : goal.returns
-returns c = sym (c.loop-i.invariant.2 ∙ sections-end _ _ _ _ _ _ c.loop-i-test.false)
+returns c = sym (c.loop-i.invariant.1 ∙ sections-end _ _ _ _ _ _ c.loop-i-test.false)

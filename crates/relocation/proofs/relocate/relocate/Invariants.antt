@@ -1,5 +1,5 @@
 -- `relocate` meets its contract: at each turn the sections from `i` on, over the bytes as they are, give what all of them give.
-use Prim.Native.Nat.{◌-◌, ◌≤◌}
+use Prim.Native.Nat.{◌-◌}
 use mathlib.Core.Path.{◌≡◌}
 use lib.ListN.{length}
 use Rattle.machine.specs.Host.{host_machine}
@@ -11,10 +11,6 @@ abbrev pub invariant-loop-i : goal.invariant-loop-i
 invariant-loop-i l =
     let k = linking_of l.host l.file l.reading l.list in
     let m = host_machine l.host in
-    (l.i ≤ l.reading.count)
-    × (length l.image ≡ length l.initial.image)
+    (length l.image ≡ length l.initial.image)
     × (relocate_all m k l.file l.initial.image ≡ relocate_from m k l.file l.i (l.reading.count - l.i) l.image)
     × Kept k l.cells
-
-abbrev pub decreases-loop-i : goal.decreases-loop-i
-decreases-loop-i l = l.reading.count - l.i

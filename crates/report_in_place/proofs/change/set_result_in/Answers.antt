@@ -15,17 +15,17 @@ returns-in_default c = let b = c.args.b.now in
 
 pub returns : goal.returns
 returns c = let s = state_in c.args.b.now in
-    let i = c.in-At.i in
+    let i = c.in-Some.i in
     let change = with_result c.args.res in
     holds_as c.put_payload.ensures
     (ap (λ (p : Payload). with_payloads (set s.payloads i (change p)) s) c.payload-payload.ensures
-    ∙ changed-there change s c.args.slot i (sym c.with_slot.ensures.0 ∙ c.in-At.is))
+    ∙ changed-there change s c.args.slot i (sym c.with_slot.ensures.0 ∙ c.in-Some.is))
 
 pub with_slot-requires : goal.with_slot-requires
 with_slot-requires c = (state-length _ c.requires.0, c.requires.1)
 
 pub payload-payload-requires : goal.payload-payload-requires
-payload-payload-requires c = (state-length _ c.requires.0, c.with_slot.ensures.1 _ c.in-At.is)
+payload-payload-requires c = (state-length _ c.requires.0, c.with_slot.ensures.1 _ c.in-Some.is)
 
 pub put_payload-requires : goal.put_payload-requires
-put_payload-requires c = (c.requires.0, c.with_slot.ensures.1 _ c.in-At.is)
+put_payload-requires c = (c.requires.0, c.with_slot.ensures.1 _ c.in-Some.is)

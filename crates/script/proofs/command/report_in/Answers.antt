@@ -5,14 +5,13 @@ use Rattle.script.specs.Command.{number_most, report_in}
 use Rattle.script.proofs.Commands.{number-most}
 use Rattle.script.proofs.command.report_in.Goals as goal
 
-pub returns-in_default : goal.returns-in_default
+pub returns-in_err-cpu : goal.returns-in_err-cpu
 unfolding report_in
-returns-in_default c = rw (sym c.read_field.ensures ∙ c.in_default.is)
+returns-in_err-cpu c = rw (c.from_residual.ensures, sym c.read_field.ensures ∙ c.in_err-cpu.was)
 
 pub overflow_cast-result : goal.overflow_cast-result
-overflow_cast-result c = let cpu = sym c.read_field.ensures ∙ c.in-Is.is in
-    omega (arith, number-most number_most _ _ cpu)
+overflow_cast-result c = omega (arith, number-most number_most _ _ (sym c.read_field.ensures ∙ c.in_ok-cpu.was))
 
 pub returns : goal.returns
 unfolding report_in
-returns c = rw (sym c.read_field.ensures ∙ c.in-Is.is)
+returns c = rw (sym c.read_field.ensures ∙ c.in_ok-cpu.was)

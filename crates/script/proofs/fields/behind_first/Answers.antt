@@ -1,22 +1,14 @@
--- `fields::behind_first` meets its contract: the spaces so far and the fields left are the fields.
+-- `fields::behind_first` meets its contract: a field begins behind each space.
 use native.Mathlib.Omega.{arith}
-use Rattle.script.proofs.Line.{count-space, count-byte, count-end}
+use lib.Dec.{eqb}
+use Rattle.std.proofs.Common.{rules, tests}
+use Rattle.std.proofs.lemmas.Iterator.{YieldsList-from_slice}
+use Rattle.std.proofs.lemmas.Iterator.Consumers.{YieldsList-from_filter, count_from_yields_List}
+use Rattle.script.specs.Fields.{space}
+use Rattle.script.proofs.Line.{count-fields}
 use Rattle.script.proofs.fields.behind_first.Goals as goal
-use Rattle.script.proofs.fields.behind_first.Goals.{then-line-i-eq32, else-line-i-eq32}
-
-pub loop-i-init : goal.loop-i-init
-loop-i-init c = (omega arith, omega arith, omega arith)
-
-pub loop-i-preserved : goal.loop-i-preserved
-loop-i-preserved c = let l = c.loop-i in
-    let line = c.args.line.now in
-    elim c.if-line-i-eq32.branch [
-      | then-line-i-eq32 w ↦
-          (omega arith, omega arith, omega (arith, count-space line l.i (omega arith) w.if-line-i-eq32.true))
-      | else-line-i-eq32 w ↦
-          (omega arith, omega arith, omega (arith, count-byte line l.i (omega arith) w.if-line-i-eq32.false))
-    ]
 
 pub returns : goal.returns
-returns c = let l = c.loop-i in
-    omega (arith, count-end c.args.line.now l.i (omega arith))
+returns c = let line = c.args.line.now in
+    let count = count_from_yields_List c.filter.result c.count.result c.count.ensures.ran (YieldsList-from_filter _ (λ b. eqb b space) (YieldsList-from_slice line cc) c.filter.ensures.closure (λ x b q k. search (rules, tests))) in
+    omega (arith, count, count-fields line)

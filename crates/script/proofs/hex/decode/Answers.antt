@@ -10,7 +10,7 @@ use Rattle.script.proofs.Digits.{hex-digits, taken-size, taken-byte}
 use Rattle.script.proofs.hex.decode.Goals as goal
 
 pub loop-i-init : goal.loop-i-init
-loop-i-init c = (omega arith, written_none _ _ _)
+loop-i-init c = written_none _ _ _
 
 pub digit_value-high-requires : goal.digit_value-high-requires
 digit_value-high-requires c = every-at is_hex_digit _ (hex-digits _ c.requires.0) _ 0 (omega arith)
@@ -27,8 +27,8 @@ loop-i-preserved c = let a = c.args in
     16 * c.digit_value-high.result + c.digit_value-low.result
     ≡ 16 * hex_value (get_or a.s.now (2 * l.i) 0) + hex_value (get_or a.s.now (2 * l.i + 1) 0) =
     rw (c.digit_value-high.ensures.0, c.digit_value-low.ensures.0) in
-    (omega arith, written-more _ _ _ _ l.invariant.1 _ (omega (arith, size)) (omega (arith, size)) (digits ∙ sym byte))
+    written-more _ _ _ _ l.invariant _ (omega (arith, size)) (omega (arith, size)) (digits ∙ sym byte)
 
 pub returns : goal.returns
 returns c = let size = taken-size c.args.s.now c.args.n c.requires.1 in
-    written_all _ _ _ _ c.loop-i.invariant.1 (omega (arith, size))
+    written_all _ _ _ _ c.loop-i.invariant (omega (arith, size))

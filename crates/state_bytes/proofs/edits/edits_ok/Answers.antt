@@ -1,28 +1,17 @@
--- `edits::edits_ok` meets its contract: all edits pass exactly where those from `i` on do.
-use mathlib.Core.Path.{sym, ◌∙◌}
-use native.Mathlib.Omega.{arith}
-use Rattle.words.proofs.Scan.{begin, turn, end}
-use Rattle.words.proofs.Tests.{held, refuted}
-use Rattle.state_bytes.specs.Flags.{edits_ok}
+-- `edits::edits_ok` meets its contract: all edits pass.
+use Prim.Native.Nat.{ℕ, ◌+◌, ◌*◌}
+use mathlib.Core.Path.{refl, sym, ◌∙◌}
+use Rattle.std.proofs.Common.{rules, tests}
+use Rattle.std.proofs.lemmas.Iterator.{YieldsList-from_range}
+use Rattle.std.proofs.lemmas.Iterator.Search.{all_from_yields_List}
+use Rattle.records.specs.Limits.{records_max}
+use Rattle.state_bytes.specs.Flags.{kind_ok, edits_ok}
+use Rattle.state_bytes.specs.Layout.{edit_size}
+use Rattle.state_bytes.proofs.Loads.{below-list_all}
 use Rattle.state_bytes.proofs.edits.edits_ok.Goals as goal
 
-pub loop-i-init : goal.loop-i-init
-unfolding edits_ok
-loop-i-init c = (omega arith, begin _ _ _)
-
-pub returns-then-not-kind_ok : goal.returns-then-not-kind_ok
-returns-then-not-kind_ok c = sym
-    (c.loop-i.invariant.1
-    ∙ turn _ _ _ _ c.loop-i-test.true
-    ∙ rw (refuted c.kind_ok.ensures c.if-not-kind_ok.true))
-
-pub loop-i-preserved : goal.loop-i-preserved
-loop-i-preserved c = (
-  omega arith,
-  c.loop-i.invariant.1
-      ∙ turn _ _ _ _ c.loop-i-test.true
-      ∙ rw (held c.kind_ok.ensures c.if-not-kind_ok.false),
-)
-
 pub returns : goal.returns
-returns c = sym (c.loop-i.invariant.1 ∙ end _ _ _ _ c.loop-i-test.false)
+unfolding edits_ok
+returns c = let test = λ (i : ℕ). kind_ok c.args.b.now (c.args.at + edit_size * i) in
+    let all = all_from_yields_List test _ _ c.all.result c.all.ensures.ran (YieldsList-from_range 0 records_max _ (cc) refl) (λ x b q k. search (rules, tests)) in
+    all ∙ sym (below-list_all test 0 records_max)

@@ -10,15 +10,13 @@ use Rattle.state_bytes.proofs.Loads.{filled-part}
 use Rattle.state_bytes.proofs.head.load_held.Goals as goal
 
 pub loop-i-init : goal.loop-i-init
-loop-i-init c = (omega arith, fill-begin _ _ _)
+loop-i-init c = fill-begin _ _ _
 
 pub loop-i-preserved : goal.loop-i-preserved
-loop-i-preserved c = (
-  omega arith,
-  rw c.loop-i.invariant.1 (fill-turn _ false cpus_max _ c.loop-i-test.true),
-)
+loop-i-preserved c =
+    rw c.loop-i.invariant (fill-turn _ false cpus_max _ (omega arith))
 
 pub returns : goal.returns
 unfolding held_at
 returns c = let all : c.loop-i.i ≡ cpus_max = omega arith in
-    rw (c.loop-i.invariant.1, all) (filled-part is_set false _ held_place cpus_max (omega arith))
+    rw (c.loop-i.invariant, all) (filled-part is_set false _ held_place cpus_max (omega arith))

@@ -1,5 +1,5 @@
 -- `head::load_held` meets its contract: the first `i` elements are those of the first `i` bytes.
-use Prim.Native.Nat.{◌+◌, ◌-◌, ◌≤◌}
+use Prim.Native.Nat.{◌+◌}
 use mathlib.Core.Path.{◌≡◌}
 use mathlib.Core.Bool.{false}
 use lib.ListN.{get_or}
@@ -10,7 +10,4 @@ use Rattle.state_bytes.specs.Stored.{is_set}
 use Rattle.state_bytes.proofs.head.load_held.Given as goal
 
 abbrev pub invariant-loop-i : goal.invariant-loop-i
-invariant-loop-i l = (l.i ≤ cpus_max) × (l.held ≡ filled (λ j. is_set (get_or l.b (held_place + j) 0)) false cpus_max l.i)
-
-abbrev pub decreases-loop-i : goal.decreases-loop-i
-decreases-loop-i l = cpus_max - l.i
+invariant-loop-i l = l.flag-items ≡ filled (λ j. is_set (get_or l.b (held_place + j) 0)) false cpus_max l.i

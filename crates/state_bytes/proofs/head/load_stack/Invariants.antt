@@ -1,5 +1,5 @@
 -- `head::load_stack` meets its contract: the first `i` elements are the first `i` numbers.
-use Prim.Native.Nat.{◌+◌, ◌*◌, ◌-◌, ◌≤◌}
+use Prim.Native.Nat.{◌+◌, ◌*◌}
 use mathlib.Core.Path.{◌≡◌}
 use Rattle.words.specs.Number.{le_at}
 use Rattle.words.specs.Scan.{filled}
@@ -8,7 +8,4 @@ use Rattle.state_bytes.specs.Layout.{stack_place}
 use Rattle.state_bytes.proofs.head.load_stack.Given as goal
 
 abbrev pub invariant-loop-i : goal.invariant-loop-i
-invariant-loop-i l = (l.i ≤ slot_count) × (l.stack ≡ filled (λ j. le_at 4 l.b (stack_place + 4 * j)) 0 slot_count l.i)
-
-abbrev pub decreases-loop-i : goal.decreases-loop-i
-decreases-loop-i l = slot_count - l.i
+invariant-loop-i l = l.slot-items ≡ filled (λ j. le_at 4 l.b (stack_place + 4 * j)) 0 slot_count l.i

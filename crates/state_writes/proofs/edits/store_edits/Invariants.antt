@@ -1,6 +1,4 @@
 -- `store_edits` meets its contract: the first `i` edits are written.
-use Prim.Native.Nat.{◌-◌, ◌≤◌}
-use Rattle.records.specs.Limits.{records_max}
 use Rattle.records.specs.Payload.{no_edit}
 use Rattle.state_bytes.specs.Layout.{edit_size}
 use Rattle.state_bytes.specs.Stored.{stored_edit, edit_at}
@@ -8,7 +6,4 @@ use Rattle.state_bytes.proofs.Rows.{Table}
 use Rattle.state_writes.proofs.edits.store_edits.Given as goal
 
 abbrev pub invariant-loop-i : goal.invariant-loop-i
-invariant-loop-i l = (l.i ≤ records_max) × Table stored_edit edit_at edit_size l.edits no_edit l.initial.b l.at l.i l.b
-
-abbrev pub decreases-loop-i : goal.decreases-loop-i
-decreases-loop-i l = records_max - l.i
+invariant-loop-i l = Table stored_edit edit_at edit_size l.edit-items no_edit l.initial.b l.at l.i l.b

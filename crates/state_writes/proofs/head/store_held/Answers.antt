@@ -20,9 +20,3 @@ pub returns : goal.returns
 returns c = let held = c.args.held in
     let size = length-map held flag_byte in
     record { b_after = written_all _ _ _ c.loop-i.i c.loop-i.invariant (omega (arith, c.loop-i.invariant.some)); held_len = omega arith }
-
-pub bounds-b-i : goal.bounds-b-i
-bounds-b-i c = omega (arith, c.loop-i.invariant.whole)
-
-pub shape_of-b : goal.shape_of-b
-shape_of-b c = c.loop-i.invariant.whole

@@ -8,20 +8,14 @@ use Rattle.state_bytes.proofs.Rows.{number-row, rows_back, table-begin, table-tu
 use Rattle.state_writes.proofs.head.store_stack.Goals as goal
 
 pub loop-i-init : goal.loop-i-init
-loop-i-init c = (omega arith, table-begin _ _ _ _ _ _ _)
+loop-i-init c = table-begin _ _ _ _ _ _ _
 
 pub loop-i-preserved : goal.loop-i-preserved
 loop-i-preserved c = let told = c.store4.ensures in
-    (omega arith, table-turn _ _ _ _ _ _ _ c.loop-i.invariant.1 (omega arith) (omega arith) (number-row 4 _ told.x_bound) told.b_after)
+    table-turn _ _ _ _ _ _ _ c.loop-i.invariant (omega arith) (omega arith) (number-row 4 _ told.x_bound) told.b_after
 
 pub returns : goal.returns
 returns c = let stack = c.args.stack in
     let all : c.loop-i.i ≡ length stack = omega arith in
     let size : length stack ≡ slot_count = omega arith in
-    let k = c.loop-i.invariant.1 in record { b_after = table-end _ _ _ _ _ _ _ k all; stack_len = (size, rows_back _ _ _ stack 0 (le_at-local 4) (rw all at k.rows) slot_count size) }
-
-pub store4-requires : goal.store4-requires
-store4-requires c = omega (arith, c.loop-i.invariant.1.whole)
-
-pub shape_of-b : goal.shape_of-b
-shape_of-b c = c.loop-i.invariant.1.whole
+    let k = c.loop-i.invariant in record { b_after = table-end _ _ _ _ _ _ _ k all; stack_len = (size, rows_back _ _ _ stack 0 (le_at-local 4) (rw all at k.rows) slot_count size) }

@@ -11,30 +11,30 @@ use Rattle.state.proofs.Laws.{slot-hit}
 use Rattle.state.proofs.Whole.{whole}
 use Rattle.steps.proofs.EndLaws.{changed-twice}
 use Rattle.steps.proofs.end.finish.Goals as goal
-use Rattle.steps.proofs.end.finish.Goals.{In-At}
+use Rattle.steps.proofs.end.finish.Goals.{In-Some}
 
 pub returns-in_default : goal.returns-in_default
 unfolding changed_in
 returns-in_default c = rw (← c.with_slot.ensures, c.in_default.is)
 
 -- what was found is in the list
-inside : (c : goal.In-At) → c.in-At.i < slot_count
+inside : (c : goal.In-Some) → c.in-Some.i < slot_count
 inside c =
-    let hit = slot-hit c.args.state _ _ (sym c.with_slot.ensures ∙ c.in-At.is) in
+    let hit = slot-hit c.args.state _ _ (sym c.with_slot.ensures ∙ c.in-Some.is) in
     omega (arith, hit.0)
 
 pub returns : goal.returns
 unfolding changed_in
 returns c = let s = c.args.state in
-    let i = c.in-At.i in
-    let there : i < length s.payloads = omega (arith, inside (goal.at.returns c).In-At, (whole s _ c.well_formed.0).payloads) in
+    let i = c.in-Some.i in
+    let there : i < length s.payloads = omega (arith, inside (goal.at.returns c).In-Some, (whole s _ c.well_formed.0).payloads) in
     c.set_status.ensures
     ∙ ap (λ (n : State). changed_at (with_status c.status_after-status.result) n i) c.set_result-next.ensures
     ∙ changed-twice (with_result 0) (with_status c.status_after-status.result) s i there
-    ∙ rw (← c.with_slot.ensures, c.in-At.is, c.status_after-status.ensures)
+    ∙ rw (← c.with_slot.ensures, c.in-Some.is, c.status_after-status.ensures)
 
 pub set_result-next-requires : goal.set_result-next-requires
-set_result-next-requires c = omega (arith, inside (goal.at.set_result-next-requires c).In-At)
+set_result-next-requires c = omega (arith, inside (goal.at.set_result-next-requires c).In-Some)
 
 pub set_status-requires : goal.set_status-requires
-set_status-requires c = omega (arith, inside (goal.at.set_status-requires c).In-At)
+set_status-requires c = omega (arith, inside (goal.at.set_status-requires c).In-Some)

@@ -15,9 +15,9 @@ returns-in_default c = λ s h below next.
 pub returns : goal.returns
 unfolding payload_in
 returns c = λ s h below next.
-    let place = c.in-At.place in
-    let inside : place < c.args.outline.count = c.with_slot.ensures.1 _ c.in-At.is in
-    let there : payload_in s c.args.slot ≡ payload_at s place = rw (← c.with_slot.ensures.0 s h, c.in-At.is) in
+    let place = c.in-Some.place in
+    let inside : place < c.args.outline.count = c.with_slot.ensures.1 _ c.in-Some.is in
+    let there : payload_in s c.args.slot ≡ payload_at s place = rw (← c.with_slot.ensures.0 s h, c.in-Some.is) in
     record {
       place = omega (arith, h.count, inside);
       number = rw (sym there) below;

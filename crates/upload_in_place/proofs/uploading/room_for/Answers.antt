@@ -14,7 +14,7 @@ in_range-requires c = c.requires
 
 pub returns-then-not-sizes_ok : goal.returns-then-not-sizes_ok
 unfolding request_rules
-returns-then-not-sizes_ok c = rw (refuted (c.sizes_ok.ensures _ c.in_range.ensures) c.if-not-sizes_ok.true) c.refuse.ensures
+returns-then-not-sizes_ok c = rw (refuted (c.sizes_ok.ensures _ c.in_range.ensures) c.if-not-sizes_ok.true) c.refused.ensures
 
 -- the sizes are right
 module _ (c : goal.Else-not-sizes_ok) where

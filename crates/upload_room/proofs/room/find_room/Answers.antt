@@ -10,13 +10,13 @@ use Rattle.upload_room.proofs.room.find_room.Goals.{Else-not-is_valid}
 
 pub returns-then-not-is_name : goal.returns-then-not-is_name
 unfolding room_rules
-returns-then-not-is_name c s same room = rw (refuted c.is_name.ensures c.if-not-is_name.true) c.refuse.ensures
+returns-then-not-is_name c s same room = rw (refuted c.is_name.ensures c.if-not-is_name.true) c.refused.ensures
 
 pub returns-then-not-is_valid : goal.returns-then-not-is_valid
 unfolding room_rules
 returns-then-not-is_valid c s same room =
     rw (held c.is_name.ensures c.if-not-is_name.false, refuted c.is_valid.ensures c.if-not-is_valid.true)
-    c.refuse-then-not-is_valid.ensures
+    c.refused-then-not-is_valid.ensures
 
 -- the name is one, and the list is a symbol list
 module _ (c : goal.Else-not-is_valid) where
@@ -26,20 +26,20 @@ module _ (c : goal.Else-not-is_valid) where
   listed : valid c.args.list.now ≡ true
   listed = held c.is_valid.ensures c.if-not-is_valid.false
 
-pub returns-in-At : goal.returns-in-At
+pub returns-in-Some : goal.returns-in-Some
 unfolding room_rules
-returns-in-At c s same room =
-    let right = (goal.at.returns-in-At c).Else-not-is_valid in
-    rw (named right, listed right, ← same, c.in-At.is) c.refuse-in-At.ensures
+returns-in-Some c s same room =
+    let right = (goal.at.returns-in-Some c).Else-not-is_valid in
+    rw (named right, listed right, ← same, c.in-Some.is) c.refused-in-Some.ensures
 
 pub returns-in_default-free : goal.returns-in_default-free
 unfolding room_rules
 returns-in_default-free c s same room =
     let right = (goal.at.returns-in_default-free c).Else-not-is_valid in
-    rw (named right, listed right, ← same, c.in_default.is, ← room, c.in_default-free.is) c.refuse-in_default-free.ensures
+    rw (named right, listed right, ← same, c.in_default.is, ← room, c.in_default-free.is) c.refused-in_default-free.ensures
 
 pub returns : goal.returns
 unfolding room_rules
 returns c s same room =
     let right = (goal.at.returns c).Else-not-is_valid in
-    rw (named right, listed right, ← same, c.in_default.is, ← room, c.in-At-free.is)
+    rw (named right, listed right, ← same, c.in_default.is, ← room, c.in-Some-free.is)

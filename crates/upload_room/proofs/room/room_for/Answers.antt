@@ -13,7 +13,7 @@ use Rattle.upload_room.proofs.room.room_for.Goals.{Else-not-sizes_ok}
 
 pub returns-then-not-sizes_ok : goal.returns-then-not-sizes_ok
 unfolding request_rules
-returns-then-not-sizes_ok c = rw (refuted (c.sizes_ok.ensures _ c.in_range.ensures) c.if-not-sizes_ok.true) c.refuse.ensures
+returns-then-not-sizes_ok c = rw (refuted (c.sizes_ok.ensures _ c.in_range.ensures) c.if-not-sizes_ok.true) c.refused.ensures
 
 -- the sizes are right
 module _ (c : goal.Else-not-sizes_ok) where

@@ -5,7 +5,7 @@ use Rattle.words.proofs.be.read.Goals as goal
 use Rattle.words.proofs.be.read.Goals.{In-loop-i}
 
 pub loop-i-init : goal.loop-i-init
-loop-i-init c = (omega arith, sym (be_at-none _ _), omega arith)
+loop-i-init c = (sym (be_at-none _ _), omega arith)
 
 -- in a turn at most seven bytes have been passed
 room : (c : goal.In-loop-i) → c.loop-i.x < 256 ^ 7
@@ -23,8 +23,7 @@ pub loop-i-preserved : goal.loop-i-preserved
 loop-i-preserved c = let a = c.args in
     let l = c.loop-i in
     let byte = be_at-more l.i a.s.now a.at (omega arith) in (
-      omega arith,
-      rw (add-one, byte, ← l.invariant.1) (omega arith),
+      rw (add-one, byte, ← l.invariant.0) (omega arith),
       rw (add-one, pow-suc) (omega arith),
     )
 
@@ -32,4 +31,4 @@ pub returns : goal.returns
 returns c = let a = c.args in
     let l = c.loop-i in
     let all : l.i ≡ a.n = omega arith in
-    rw (← all) (record { value = l.invariant.1; upper_bound = l.invariant.2 })
+    rw (← all) (record { value = l.invariant.0; upper_bound = l.invariant.1 })

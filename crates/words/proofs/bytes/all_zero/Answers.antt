@@ -4,19 +4,19 @@ use Rattle.words.specs.Order.{all_zero}
 use Rattle.words.proofs.Order.{all-zero-at}
 use Rattle.words.proofs.bytes.all_zero.Goals as goal
 
-pub loop-i-init : goal.loop-i-init
-loop-i-init c = (omega arith, refl)
+pub loop-b-init : goal.loop-b-init
+loop-b-init c = refl
 
-pub returns-then-s-i-ne0 : goal.returns-then-s-i-ne0
-returns-then-s-i-ne0 c = let l = c.loop-i in
-    rw (l.invariant.1, all-zero-at c.args.s.now l.i (omega arith), ne_eqb _ _ c.if-s-i-ne0.true)
+pub returns-then-b-ne0 : goal.returns-then-b-ne0
+returns-then-b-ne0 c = let l = c.loop-b in
+    rw (l.invariant, all-zero-at c.args.s.now l.b-index (omega arith), ne_eqb _ _ c.if-b-ne0.true)
 
-pub loop-i-preserved : goal.loop-i-preserved
-loop-i-preserved c = let l = c.loop-i in
-    (omega arith, l.invariant.1 ∙ all-zero-at c.args.s.now l.i (omega arith) ∙ rw (eq-eqb _ _ c.if-s-i-ne0.false))
+pub loop-b-preserved : goal.loop-b-preserved
+loop-b-preserved c = let l = c.loop-b in
+    l.invariant ∙ all-zero-at c.args.s.now l.b-index (omega arith) ∙ rw (eq-eqb _ _ c.if-b-ne0.false)
 
 pub returns : goal.returns
 unfolding all_zero
 returns c = let a = c.args in
-    let end : length a.s.now ≤ c.loop-i.i = omega arith in
-    rw (c.loop-i.invariant.1, drop_of_length-le a.s.now end)
+    let end : length a.s.now ≤ c.loop-b.b-index = omega arith in
+    rw (c.loop-b.invariant, drop_of_length-le a.s.now end)

@@ -1,10 +1,6 @@
 -- `bytes::copy` meets its contract: the first `i` bytes are written.
-use Rattle.std.proofs.Common.{◌-◌, length}
 use Rattle.words.proofs.Written.{Written}
 use Rattle.words.proofs.bytes.copy.Given as goal
 
 abbrev pub invariant-loop-i : goal.invariant-loop-i
 invariant-loop-i l = Written l.initial.s l.at l.new l.i l.s
-
-abbrev pub decreases-loop-i : goal.decreases-loop-i
-decreases-loop-i l = length l.new - l.i

@@ -1,10 +1,7 @@
 -- `bytes::find_zero` meets its contract: what is found from `i` on is what is found from `from` on.
-use Rattle.std.proofs.Common.{sym, refl, ◌∙◌, eq-eqb, ne_eqb}
+use Rattle.std.proofs.Common.{sym, ◌∙◌, eq-eqb, ne_eqb}
 use Rattle.words.proofs.Name.{zero_turn, zero-end}
 use Rattle.words.proofs.bytes.find_zero.Goals as goal
-
-pub loop-i-init : goal.loop-i-init
-loop-i-init c = refl
 
 pub returns-then-s-i-eq0 : goal.returns-then-s-i-eq0
 returns-then-s-i-eq0 c = sym (c.loop-i.invariant ∙ zero_turn _ _ c.loop-i-test.true ∙ rw (eq-eqb _ _ c.if-s-i-eq0.true))

@@ -6,7 +6,7 @@ use Rattle.words.proofs.le.read.Goals.{In-loop-i}
 
 pub loop-i-init : goal.loop-i-init
 loop-i-init c = let e : c.args.n - c.args.n ≡ 0 = omega arith in
-    rw e (omega arith, sym (le_at-none _ _), omega arith)
+    rw e (sym (le_at-none _ _), omega arith)
 
 -- in a turn at most seven bytes have been passed
 room : (c : goal.In-loop-i) → c.loop-i.x < 256 ^ 7
@@ -26,8 +26,7 @@ loop-i-preserved c = let a = c.args in
     let passed : a.n - (l.i - 1) ≡ suc (a.n - l.i) = omega arith in
     let place : suc (a.at + (l.i - 1)) ≡ a.at + l.i = omega arith in
     let byte = le_at-more (a.n - l.i) a.s.now (a.at + (l.i - 1)) (omega arith) in (
-      omega arith,
-      rw (passed, byte, place, ← l.invariant.1) (omega arith),
+      rw (passed, byte, place, ← l.invariant.0) (omega arith),
       rw (passed, pow-suc) (omega arith),
     )
 
@@ -36,4 +35,4 @@ returns c = let a = c.args in
     let l = c.loop-i in
     let all : a.n - l.i ≡ a.n = omega arith in
     let place : a.at + l.i ≡ a.at = omega arith in
-    rw (← all, ← place) (record { value = l.invariant.1; upper_bound = l.invariant.2 })
+    rw (← all, ← place) (record { value = l.invariant.0; upper_bound = l.invariant.1 })

@@ -1,11 +1,11 @@
 -- `work::work` meets its contract: the first test that fails refuses; else the step is made and the state goes on.
+use Rattle.std.proofs.Common.{Ok}
 use mathlib.Core.Path.{◌≡◌, ap, ◌∙◌}
 use mathlib.Core.Bool.{true}
 use borrow.Author.Rules.{rules}
 use borrow.Author.Tests.{eq-eqb, ne_eqb}
 use lib.ListN.{length}
 use Rattle.words.proofs.Tests.{held, refuted}
-use Rattle.records.specs.declared.refusal.Verdict.TheVariants.{Pass}
 use Rattle.machine.specs.Host.{machine_of}
 use Rattle.machine.specs.declared.processor.Processor.{Processor}
 use Rattle.state.specs.State.{is_standing}
@@ -74,7 +74,7 @@ next_state-next-requires c κs = (ranged c.before.before.before.before.before.be
 
 -- all tests passed: the state and the stores after a step
 abbrev passed : State → Lent → Worked
-passed s after = record { answer = Pass; state = s; after = after }
+passed s after = record { answer = Ok tt; state = s; after = after }
 
 same-passed : {s t : State} {l m : Lent} → s ≡ t → l ≡ m → passed s l ≡ passed t m
 same-passed {s} {t} {l} {m} e f = ap (λ (x : State). passed x l) e ∙ ap (λ (x : Lent). passed t x) f

@@ -27,7 +27,7 @@ returns-then-job-ne-REPLACE c = let b = c.args.b.now in
     holds_as (holds-still b c.requires.0) (rw (ne_eqb _ _ other))
 
 pub loop-i-init : goal.loop-i-init
-loop-i-init c = (omega arith, holds-still _ c.requires.0)
+loop-i-init c = holds-still _ c.requires.0
 
 -- payload `i` is loaded
 inside : (c : goal.In-loop-i) → c.loop-i.i < slot_count
@@ -37,35 +37,21 @@ pub loop-i-preserved : goal.loop-i-preserved
 loop-i-preserved c = let b = c.args.b.now in
     let s = state_in b in
     let i = c.loop-i.i in
-    let there : i < length s.payloads = omega (arith, inside (goal.at.loop-i-preserved c).In-loop-i, (whole_in b (state-length b c.requires.0)).payloads) in (
-      omega (arith, c.loop-i-test.true),
-      holds_as c.set_status.ensures
-          (ap (λ (t : State). changed_at (with_status checked) t i) c.loop-i.invariant.1.read
-          ∙ rw (add-one i) (ap (λ (ps : List Payload). with_payloads ps s) (first-turn (with_status checked) s.payloads i empty there))),
-    )
+    let there : i < length s.payloads = omega (arith, inside (goal.at.loop-i-preserved c).In-loop-i, (whole_in b (state-length b c.requires.0)).payloads) in
+    holds_as c.set_status.ensures
+    (ap (λ (t : State). changed_at (with_status checked) t i) c.loop-i.invariant.read
+    ∙ rw (add-one i) (ap (λ (ps : List Payload). with_payloads ps s) (first-turn (with_status checked) s.payloads i empty there)))
 
 pub returns : goal.returns
 unfolding all_checked
 returns c = let s = state_in c.args.b.now in
     let l = c.loop-i in
-    let all : l.i ≡ s.count = omega (arith, l.invariant.0, c.loop-i-test.false, c.count-count.ensures) in
+    let all : l.i ≡ s.count = omega (arith, c.loop-i-test.false, c.count-count.ensures) in
     let replaces : s.job.action ≡ replace = ap (λ (j : Job). j.action) (sym c.job-job.ensures) ∙ c.if-job-ne-REPLACE.false in
-    holds_as l.invariant.1 (rw (eq-eqb _ _ replaces, all))
+    holds_as l.invariant (rw (eq-eqb _ _ replaces, all))
 
 pub job-job-requires : goal.job-job-requires
 job-job-requires c = state-length _ c.requires.0
 
 pub count-count-requires : goal.count-count-requires
 count-count-requires c = state-length _ c.requires.0
-
-pub set_status-requires : goal.set_status-requires
-set_status-requires c = (c.loop-i.invariant.1.whole, inside (goal.at.set_status-requires c).In-loop-i)
-
-pub overflow_add-i : goal.overflow_add-i
-overflow_add-i c = omega (arith, inside (goal.at.overflow_add-i c).In-loop-i)
-
-pub loop-i-smaller : goal.loop-i-smaller
-loop-i-smaller c = omega (arith, c.loop-i-test.true)
-
-pub shape_of-b : goal.shape_of-b
-shape_of-b c = state-length _ c.loop-i.invariant.1.whole ∙ sym (state-length _ c.requires.0)

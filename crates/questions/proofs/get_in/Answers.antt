@@ -1,0 +1,50 @@
+-- `get_in` meets its contract: what is looked up in the records decides as what is looked up in the state.
+use Rattle.std.proofs.Common.{◌<◌, ◌≡◌, sym, ap, ◌∙◌, arith, true, Ok}
+use Rattle.words.proofs.Tests.{held, refuted}
+use Rattle.records.specs.Name.{is_name}
+use Rattle.memory.specs.Memory.{slot_count}
+use Rattle.ranges.specs.Ranges.{in_range}
+use Rattle.ranges.proofs.Laws.{in-range}
+use Rattle.queries.specs.Get.{got}
+use Rattle.queries.proofs.GetLaws.{name-hit, get-out, get-unnamed, get-missing, get-found}
+use Rattle.state_bytes.specs.Stored.{state_in}
+use Rattle.state_bytes.proofs.Laws.{whole_in}
+use Rattle.questions.proofs.get_in.Goals as goal
+use Rattle.questions.proofs.get_in.Goals.{Else-not-in_range, Else-not-is_name, In-Some}
+
+pub returns-then-not-in_range : goal.returns-then-not-in_range
+returns-then-not-in_range c = c.refused.ensures ∙ get-out _ _ (refuted c.in_range.ensures c.if-not-in_range.true)
+
+-- the numbers are in range
+right : (c : goal.Else-not-in_range) → in_range (state_in c.args.records.now) ≡ true
+right c = held c.in_range.ensures c.if-not-in_range.false
+
+pub returns-then-not-is_name : goal.returns-then-not-is_name
+returns-then-not-is_name c = c.refused-then-not-is_name.ensures
+    ∙ get-unnamed _ _ (right (goal.at.returns-then-not-is_name c).Else-not-in_range) (refuted c.is_name.ensures c.if-not-is_name.true)
+
+-- and the name is one
+named : (c : goal.Else-not-is_name) → is_name c.args.name.now ≡ true
+named c = held c.is_name.ensures c.if-not-is_name.false
+
+pub with_name-requires : goal.with_name-requires
+with_name-requires c = (c.requires, right (goal.at.with_name-requires c).Else-not-in_range)
+
+pub returns-in_default : goal.returns-in_default
+returns-in_default c = let at = goal.at.returns-in_default c in
+    c.refused-in_default.ensures
+    ∙ get-missing _ _ (right at.Else-not-in_range) (named at.Else-not-is_name) (sym c.with_name.ensures ∙ c.in_default.is)
+
+-- what was found is in the list
+inside : (c : goal.In-Some) → c.in-Some.i < slot_count
+inside c =
+    let hit = name-hit (state_in c.args.records.now) _ _ (sym c.with_name.ensures ∙ c.in-Some.is) in
+    omega (arith, hit, (in-range (whole_in _ c.requires) (right (goal.at.In-Some c).Else-not-in_range)).few)
+
+pub payload-requires : goal.payload-requires
+payload-requires c = (c.requires, inside (goal.at.payload-requires c).In-Some)
+
+pub returns : goal.returns
+returns c = let at = goal.at.returns c in
+    ap Ok (c.answer.ensures ∙ ap got c.payload.ensures)
+    ∙ get-found _ _ (right at.Else-not-in_range) (named at.Else-not-is_name) _ (sym c.with_name.ensures ∙ c.in-Some.is)
