@@ -1,5 +1,5 @@
 -- Document 01's actions: unload at once; revert, apply and replace become the one job.
-use Rattle.std.specs.Prelude.{ℕ, suc, ◌+◌, ◌-◌, ◌%◌, ◌^◌, Bool, true, cond, not, ◌&&◌, ◌||◌, List, [], ◌∷◌, ◌++◌, length, take, drop, replicate, ◌==◌, nat_le, Some, None, Option, Ok, Err}
+use Rattle.std.specs.Prelude.{ℕ, suc, ◌+◌, ◌-◌, ◌%◌, ◌^◌, Bool, true, cond, not, ◌&&◌, ◌||◌, List, [], ◌∷◌, ◌++◌, length, take, drop, replicate, ◌==◌, nat_le, Some, None, Option, Result, Ok, Err}
 use Rattle.words.specs.Name.{is_found}
 use Rattle.words.specs.Order.{equal}
 use Rattle.words.specs.Splice.{splice}
@@ -34,7 +34,6 @@ use Rattle.state.specs.declared.state.Job.{Job}
 use Rattle.state.specs.declared.state.State.{State}
 use Rattle.ranges.specs.Ranges.{in_range}
 use Rattle.queries.specs.TopId.{top_slot, top_id}
-use Rattle.actions.specs.declared.rules.Target.{Target}
 
 -- what an action is lent besides the state: arena and both stores, which it may write, and the hypervisor's build-id
 pub record Lent : Type 0 where
@@ -89,12 +88,9 @@ abbrev pub place_of : Option ℕ → ℕ
 place_of (Some i) = i
 place_of None = 0
 
-abbrev pub refused_target : Refusal → Target
-refused_target r = record { verdict = Err r; place = 0 }
-
-unfoldable pub target_of : State → List ℕ → ℕ → Target
-target_of s name command =
-    decide refused_target (record { verdict = Ok tt; place = place_of (with_name s name) }) (target_rules s name command)
+-- the payload's place, where the rules pass
+unfoldable pub target_of : State → List ℕ → ℕ → Result ℕ Refusal
+target_of s name command = decide Err (Ok (place_of (with_name s name))) (target_rules s name command)
 
 unfoldable pub request_rules : State → List ℕ → Lent → Request → Verdict
 request_rules s build_id l q =

@@ -43,15 +43,15 @@ pub fn action(
     if !rules::sizes_ok(state, arena.len(), undo.len(), ids.len(), build_id.len()) {
         return Called::refused(state, Reason::Invalid);
     }
-    let target = rules::find_target(state, name, command);
-    let found = target.verdict;
-    if let Err(r) = found {
-        return Called {
-            verdict: Err(r),
-            state,
-        };
-    }
-    let i = target.place;
+    let i = match rules::find_target(state, name, command) {
+        Ok(i) => i,
+        Err(r) => {
+            return Called {
+                verdict: Err(r),
+                state,
+            };
+        }
+    };
     let payload = state.payloads[i];
     let verdict = rules::check_conditions(state, build_id, ids, command, payload);
     if let Err(r) = verdict {

@@ -1,9 +1,8 @@
 // What an action asks of the request and of its payload.
 ghost use Rattle.std.specs.Prelude.{◌≡◌, ◌≤◌, true, length};
-ghost use Rattle.records.specs.Verdict.{refusal};
 ghost use Rattle.memory.specs.Memory.{ids_size};
 ghost use Rattle.ranges.specs.Ranges.{in_range};
-ghost use Rattle.actions.specs.Actions.{action_sizes_ok, is_busy, refused_target, target_of, base_ok, condition_rules, dependency_of, is_top, status_for};
+ghost use Rattle.actions.specs.Actions.{action_sizes_ok, is_busy, target_of, base_ok, condition_rules, dependency_of, is_top, status_for};
 ghost use Rattle.words.specs.Order.{equal};
 ghost use Rattle.records.specs.Limits.{id_max};
 
@@ -14,20 +13,6 @@ use records::payload::Payload;
 use records::refusal::{self, Place, Reason, Refusal};
 use state::state::{Job, State};
 use words::bytes;
-
-// Where the payload stands in the list; 0 where the verdict refuses.
-#[derive(Clone, Copy)]
-pub struct Target {
-    pub verdict: Result<(), Refusal>,
-    pub place: usize,
-}
-
-fn refuse(reason: Reason) -> Target
-    ensures { result ≡ refused_target (refusal reason Place.Nowhere) }
-{
-    let verdict = refusal::refused(reason, Place::Nowhere);
-    Target { verdict, place: 0 }
-}
 
 pub(crate) fn sizes_ok(state: State, arena: usize, undo: usize, ids: usize, build_id: usize) -> bool
     ensures { result ≡ action_sizes_ok state arena undo ids build_id }
@@ -63,29 +48,26 @@ fn is_busy(state: State, command: u32, payload: Payload) -> bool
 }
 
 // The payload's place in the list, or why it cannot be acted on: name, 2, command, 16.
-pub(crate) fn find_target(state: State, name: &[u8], command: u32) -> Target
+pub(crate) fn find_target(state: State, name: &[u8], command: u32) -> Result<usize, Refusal>
     requires { in_range state ≡ true }
     ensures { result ≡ target_of state name.now command }
 {
     if !name::is_name(name) {
-        return refuse(Reason::Invalid);
+        return refusal::refused(Reason::Invalid, Place::Nowhere);
     }
     let Some(place) = names::with_name(state, name) else {
-        return refuse(Reason::NotLoaded);
+        return refusal::refused(Reason::NotLoaded, Place::Nowhere);
     };
     if command < Job::UNLOAD {
-        return refuse(Reason::Invalid);
+        return refusal::refused(Reason::Invalid, Place::Nowhere);
     }
     if Job::REPLACE < command {
-        return refuse(Reason::Invalid);
+        return refusal::refused(Reason::Invalid, Place::Nowhere);
     }
     if is_busy(state, command, state.payloads[place]) {
-        return refuse(Reason::Busy);
+        return refusal::refused(Reason::Busy, Place::Nowhere);
     }
-    Target {
-        verdict: Ok(()),
-        place,
-    }
+    Ok(place)
 }
 
 fn status_for(command: u32) -> u32
