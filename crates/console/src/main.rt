@@ -3,10 +3,10 @@
 
 mod streams;
 
-ghost use Rattle.std.specs.Prelude.{◌≡◌, ◌≤◌, length};
-ghost use Rattle.interpreter.specs.Standing.{memory, gathered, at_first};
-ghost use Rattle.console.specs.Buffers.{Ready};
+ghost use Rattle.std.specs.Prelude.{◌≡◌, ◌≤◌};
+ghost use Rattle.console.specs.Buffers.{held_max, Ready};
 
+use interpreter::buffers::{Gathered, Memory};
 use interpreter::console::Console;
 use interpreter::lines;
 use memory::config::Config;
@@ -28,52 +28,20 @@ struct Run {
     held: usize,
 }
 
-// What is kept, and whether there may be more to read.
-#[derive(Clone, Copy)]
-struct Served {
-    run: Run,
-    more: bool,
-}
-
 // The line that is held, without its line feed, is run, and its answer written.
 fn run_line(
     streams: &mut Streams,
     run: Run,
-    text: &mut [u8],
-    arena: &mut [u8],
-    undo: &mut [u8],
-    ids: &mut [u8],
-    id: &mut [u8],
-    name: &mut [u8],
-    list: &mut [u8],
-    file: &mut [u8],
-    line: &[u8],
-    out: &mut [u8],
+    memory: &mut Memory,
+    gathered: &mut Gathered,
+    line: &[u8; HELD_MAX],
+    out: &mut [u8; Console::OUT_ROOM],
 ) -> Run
-    requires { Ready run.console run.held
-        (memory text.old arena.old undo.old ids.old id.old)
-        (gathered name.old list.old file.old)
-        line.now out.old }
-    ensures { Ready result.console result.held
-        (memory text.new arena.new undo.new ids.new id.new)
-        (gathered name.new list.new file.new)
-        line.now out.new }
+    requires { Ready run.console run.held }
+    ensures { Ready result.console result.held }
 {
     let held = run.held;
-    let stepped = lines::line(
-        run.console,
-        run.state,
-        text,
-        arena,
-        undo,
-        ids,
-        id,
-        name,
-        list,
-        file,
-        &line[..held],
-        out,
-    );
+    let stepped = lines::line(run.console, run.state, memory, gathered, &line[..held], out);
     let n = stepped.written;
     let console = stepped.console;
     let state = stepped.state;
@@ -86,9 +54,9 @@ fn run_line(
 }
 
 // One byte of a line, where there is room for it.
-fn hold(run: Run, line: &mut [u8], b: u8) -> Run
-    requires { run.held ≤ length line.old }
-    ensures { (result.console ≡ run.console) × (result.held ≤ length line.old) }
+fn hold(run: Run, line: &mut [u8; HELD_MAX], b: u8) -> Run
+    requires { run.held ≤ held_max }
+    ensures { (result.console ≡ run.console) × (result.held ≤ held_max) }
 {
     let held = run.held;
     let console = run.console;
@@ -108,31 +76,17 @@ fn hold(run: Run, line: &mut [u8], b: u8) -> Run
 fn run_byte(
     streams: &mut Streams,
     run: Run,
-    text: &mut [u8],
-    arena: &mut [u8],
-    undo: &mut [u8],
-    ids: &mut [u8],
-    id: &mut [u8],
-    name: &mut [u8],
-    list: &mut [u8],
-    file: &mut [u8],
-    line: &mut [u8],
-    out: &mut [u8],
+    memory: &mut Memory,
+    gathered: &mut Gathered,
+    line: &mut [u8; HELD_MAX],
+    out: &mut [u8; Console::OUT_ROOM],
     b: u8,
 ) -> Run
-    requires { Ready run.console run.held
-        (memory text.old arena.old undo.old ids.old id.old)
-        (gathered name.old list.old file.old)
-        line.old out.old }
-    ensures { Ready result.console result.held
-        (memory text.new arena.new undo.new ids.new id.new)
-        (gathered name.new list.new file.new)
-        line.new out.new }
+    requires { Ready run.console run.held }
+    ensures { Ready result.console result.held }
 {
     if b == b'\n' {
-        return run_line(
-            streams, run, text, arena, undo, ids, id, name, list, file, line, out,
-        );
+        return run_line(streams, run, memory, gathered, line, out);
     }
     hold(run, line, b)
 }
@@ -141,156 +95,69 @@ fn run_byte(
 fn run_bytes(
     streams: &mut Streams,
     start: Run,
-    text: &mut [u8],
-    arena: &mut [u8],
-    undo: &mut [u8],
-    ids: &mut [u8],
-    id: &mut [u8],
-    name: &mut [u8],
-    list: &mut [u8],
-    file: &mut [u8],
-    line: &mut [u8],
-    out: &mut [u8],
+    memory: &mut Memory,
+    gathered: &mut Gathered,
+    line: &mut [u8; HELD_MAX],
+    out: &mut [u8; Console::OUT_ROOM],
     bytes: &[u8],
 ) -> Run
-    requires { Ready start.console start.held
-        (memory text.old arena.old undo.old ids.old id.old)
-        (gathered name.old list.old file.old)
-        line.old out.old }
-    ensures { Ready result.console result.held
-        (memory text.new arena.new undo.new ids.new id.new)
-        (gathered name.new list.new file.new)
-        line.new out.new }
+    requires { Ready start.console start.held }
+    ensures { Ready result.console result.held }
 {
     let mut run = start;
     for b in bytes {
-        run = run_byte(
-            streams, run, text, arena, undo, ids, id, name, list, file, line, out, *b,
-        );
+        run = run_byte(streams, run, memory, gathered, line, out, *b);
     }
     run
 }
 
-// Reads once and runs what came; answers whether to go on.
-fn serve_some(
-    streams: &mut Streams,
-    run: Run,
-    text: &mut [u8],
-    arena: &mut [u8],
-    undo: &mut [u8],
-    ids: &mut [u8],
-    id: &mut [u8],
-    name: &mut [u8],
-    list: &mut [u8],
-    file: &mut [u8],
-    line: &mut [u8],
-    out: &mut [u8],
-    input: &mut [u8],
-) -> Served
-    requires { Ready run.console run.held
-        (memory text.old arena.old undo.old ids.old id.old)
-        (gathered name.old list.old file.old)
-        line.old out.old }
-    ensures { Ready result.run.console result.run.held
-        (memory text.new arena.new undo.new ids.new id.new)
-        (gathered name.new list.new file.new)
-        line.new out.new }
-{
-    let n = streams.read(input);
-    if n == 0 {
-        return Served { run, more: false };
-    }
-    let next = run_bytes(
-        streams,
-        run,
-        text,
-        arena,
-        undo,
-        ids,
-        id,
-        name,
-        list,
-        file,
-        line,
-        out,
-        &input[..n],
-    );
-    Served {
-        run: next,
-        more: true,
-    }
-}
-
 // Nothing says that the input ends, so the reads are counted, up to a number that no run reaches. A last line may lack its line feed.
-fn serve(
-    streams: &mut Streams,
-    text: &mut [u8],
-    arena: &mut [u8],
-    undo: &mut [u8],
-    ids: &mut [u8],
-    id: &mut [u8],
-    name: &mut [u8],
-    list: &mut [u8],
-    file: &mut [u8],
-    line: &mut [u8],
-    out: &mut [u8],
-    input: &mut [u8],
-)
-    requires { Ready at_first 0
-        (memory text.old arena.old undo.old ids.old id.old)
-        (gathered name.old list.old file.old)
-        line.old out.old }
-{
-    let mut served = Served {
-        run: Run {
-            console: Console::first(),
-            state: State::with_config(Config::none()),
-            held: 0,
-        },
-        more: true,
+fn serve(streams: &mut Streams, memory: &mut Memory, gathered: &mut Gathered) {
+    let mut line = [0u8; HELD_MAX];
+    let mut out = [0u8; Console::OUT_ROOM];
+    let mut input = [0u8; INPUT_ROOM];
+    let mut run = Run {
+        console: Console::first(),
+        state: State::with_config(Config::none()),
+        held: 0,
     };
     for _ in 0..u64::MAX {
-        if !served.more || streams.has_failed() {
+        if streams.has_failed() {
             break;
         }
-        served = serve_some(
-            streams, served.run, text, arena, undo, ids, id, name, list, file, line, out, input,
+        let n = streams.read(&mut input);
+        if n == 0 {
+            break;
+        }
+        run = run_bytes(
+            streams,
+            run,
+            memory,
+            gathered,
+            &mut line,
+            &mut out,
+            &input[..n],
         );
     }
-    let last = served.run;
-    if last.held > 0 {
-        run_line(
-            streams, last, text, arena, undo, ids, id, name, list, file, line, out,
-        );
+    if run.held > 0 {
+        run_line(streams, run, memory, gathered, &line, &mut out);
     }
 }
 
 fn main(rt: HostRuntime) -> io::Result<()> {
     let mut streams = Streams::new(&rt);
-    let mut text = [0u8; Console::TEXT_MAX];
-    let mut arena = [0u8; Config::ARENA_SIZE];
-    let mut undo = [0u8; Config::UNDO_SIZE];
-    let mut ids = [0u8; Config::IDS_SIZE];
-    let mut id = [0u8; Console::LINE_MAX];
-    let mut name = [0u8; Console::NAME_ROOM];
-    let mut list = [0u8; Console::LINE_MAX];
-    let mut file = [0u8; Console::FILE_ROOM];
-    let mut line = [0u8; HELD_MAX];
-    let mut out = [0u8; Console::OUT_ROOM];
-    let mut input = [0u8; INPUT_ROOM];
-    serve(
-        &mut streams,
-        &mut text,
-        &mut arena,
-        &mut undo,
-        &mut ids,
-        &mut id,
-        &mut name,
-        &mut list,
-        &mut file,
-        &mut line,
-        &mut out,
-        &mut input,
-    );
+    let mut memory = Memory {
+        text: [0u8; Console::TEXT_MAX],
+        arena: [0u8; Config::ARENA_SIZE],
+        undo: [0u8; Config::UNDO_SIZE],
+        ids: [0u8; Config::IDS_SIZE],
+        id: [0u8; Console::LINE_MAX],
+    };
+    let mut gathered = Gathered {
+        name: [0u8; Console::NAME_ROOM],
+        list: [0u8; Console::LINE_MAX],
+        file: [0u8; Console::FILE_ROOM],
+    };
+    serve(&mut streams, &mut memory, &mut gathered);
     streams.outcome()
 }

@@ -1,5 +1,5 @@
 -- From what a call gave to what its line gives.
-use Rattle.std.proofs.Common.{◌≡◌, ℕ, ◌≤◌, true, false, ◌&&◌, leb, List, [], ◌++◌, length, take, sym, refl, ap, ◌∙◌, subst, arith, Some, Option}
+use Rattle.std.proofs.Common.{◌≡◌, ℕ, ◌≤◌, true, false, ◌&&◌, leb, List, [], ◌++◌, length, take, sym, refl, ap, ◌∙◌, subst, Some, Option}
 use Rattle.state.specs.declared.state.Called.{Called}
 use Rattle.state.specs.declared.state.State.{State}
 use Rattle.actions.specs.Actions as actions
@@ -44,11 +44,14 @@ use Rattle.interpreter.specs.Lines.{
 }
 use Rattle.interpreter.specs.Session.{Pending, pending, Mode, off, ready, payload, session}
 use Rattle.interpreter.specs.Parts.{Says, Holds, Starts, opened, grown, Ends, counted, with_mode, stepped}
-use Rattle.interpreter.specs.Standing.{Memory, memory, Gathered, gathered, unit_in, pending_in, mode_in, standing, name_room, Within, Gives}
+use Rattle.interpreter.specs.Standing.{unit_in, pending_in, mode_in, standing, Within, Gives}
+use Rattle.interpreter.specs.declared.buffers.Gathered.{Gathered}
+use Rattle.interpreter.specs.declared.buffers.Memory.{Memory}
 use Rattle.interpreter.specs.declared.console.Console.{Console}
 use Rattle.interpreter.specs.declared.console.Mode as declared
 use Rattle.interpreter.specs.declared.console.Stepped.{Stepped}
 use Rattle.interpreter.specs.declared.console.Mode.TheVariants.{Off, Ready, Payload, Dropped}
+use Rattle.interpreter.proofs.Bytes.{memory, gathered}
 use Rattle.interpreter.proofs.Fresh.{line-out}
 
 -- ---- a command
@@ -72,13 +75,14 @@ module _
 
 module _ (c : Console) (s : State) (m : Memory) where
   pub act-line :
-      (name : List ℕ) (q : Request) (called : Called) (arena' undo' ids' : List ℕ) →
-      actions.acted called (actions.lent arena' undo' ids')
+      (name : List ℕ) (q : Request) (called : Called) (m' : Memory) →
+      actions.acted called (actions.lent m'.arena m'.undo m'.ids)
       ≡ actions.action_of s (take c.id m.id) (actions.lent m.arena m.undo m.ids) (actions.request name q.action q.time) →
+      (m'.text ≡ m.text) × (m'.id ≡ m.id) →
       act_line c.lines (unit_in c s m) name q
-      ≡ answer c.lines (ready (unit_in c called.state (memory m.text arena' undo' ids' m.id))) (verdict_line called.verdict)
+      ≡ answer c.lines (ready (unit_in c called.state m')) (verdict_line called.verdict)
   unfolding act_line
-  act-line name q called arena' undo' ids' e = rw (← e)
+  act-line name q called m' e kept = rw (← e, kept.0, kept.1)
 
   pub called-line :
       (called said : Called) → called ≡ said →
@@ -88,13 +92,12 @@ module _ (c : Console) (s : State) (m : Memory) where
   called-line called said e = rw e
 
   pub work-line :
-      (called : Called) (text' whole undo' : List ℕ) →
-      work.worked_with called (work.lent text' undo') ≡ work.work_of s (work.lent (take c.text m.text) m.undo) →
-      take c.text whole ≡ text' →
+      (called : Called) (text' undo' : List ℕ) →
+      work.worked_with called (work.lent (take c.text text') undo') ≡ work.work_of s (work.lent (take c.text m.text) m.undo) →
       work_line c.lines (unit_in c s m)
-      ≡ answer c.lines (ready (unit_in c called.state (memory whole m.arena undo' m.ids m.id))) (verdict_line called.verdict)
+      ≡ answer c.lines (ready (unit_in c called.state (memory text' m.arena undo' m.ids m.id))) (verdict_line called.verdict)
   unfolding work_line
-  work-line called text' whole undo' e front = rw (← e, front)
+  work-line called text' undo' e = rw (← e)
 
 start-session :
     (n : ℕ) (mode : Mode) (h : Host) (id : List ℕ) → session n (start_line n mode h id).session.mode ≡ (start_line n mode h id).session
@@ -131,36 +134,37 @@ start_gives c s h id m r m' from to g mode x same =
 
 -- its payload follows
 pub open_gives :
-    (c : Console) (s : State) (m : Memory) (line name list file out : List ℕ) (r : Stepped) → r ≡ opened c s r.console.name r.console.list →
-    Holds name r.console.name (name_in line) → Holds list r.console.list (list_in line) → Within c →
-    (length name ≤ name_room) × (length list ≤ line_max) →
-    Gives (answer c.lines (payload (unit_in c s m) (pending (name_in line) (list_in line) [])) []) r m (gathered name list file) out out
-open_gives c s m line name list file out r e kept-name kept-list within room =
+    (c : Console) (s : State) (m : Memory) (line : List ℕ) (g : Gathered) (out : List ℕ) (r : Stepped) → r ≡ opened c s r.console.name r.console.list →
+    Holds g.name r.console.name (name_in line) → Holds g.list r.console.list (list_in line) → Within r.console →
+    Gives (answer c.lines (payload (unit_in c s m) (pending (name_in line) (list_in line) [])) []) r m g out out
+open_gives c s m line g out r e kept-name kept-list within =
     record {
       session =
-          ap (λ t. standing t.console t.state m (gathered name list file)) e
+          ap (λ t. standing t.console t.state m g) e
           ∙ rw (kept-name.same, kept-list.same);
       out = ap (λ t. written out t.written) e ∙ none out 0;
-      within =
-          subst (λ t. Within t.console) (sym e)
-          (record {
-            text = within.text;
-            id = within.id;
-            name = omega (arith, kept-name.room, room.0);
-            list = omega (arith, kept-list.room, room.1);
-            file = omega arith;
-          });
+      within = within;
     }
 
 module _ (c : Console) (s : State) (line : List ℕ) (r : Stepped) (from to : List ℕ) (within : Within c) (m : Memory) (g : Gathered) where
   -- at its end the loader answers
   pub ends-gives :
-      (arena' ids' : List ℕ) → is_end line ≡ true → Ends c s (pending_in c g) m.arena m.ids r arena' ids' from to →
-      Gives (payload_line c.lines (unit_in c s m) (pending_in c g) line) r (memory m.text arena' m.undo ids' m.id) g from to
+      (m' : Memory) → is_end line ≡ true → Ends c s (pending_in c g) m r m' from to →
+      Gives (payload_line c.lines (unit_in c s m) (pending_in c g) line) r m' g from to
   unfolding payload_line upload_line
-  ends-gives arena' ids' end x =
+  ends-gives m' end x =
       record {
-        session = rw (end, x.console, x.state, ← ap (λ l. l.arena) x.memory, ← ap (λ l. l.ids) x.memory);
+        session =
+            rw (
+              end,
+              x.console,
+              x.state,
+              ← ap (λ l. l.arena) x.memory,
+              ← ap (λ l. l.ids) x.memory,
+              x.kept.0,
+              x.kept.1,
+              x.kept.2,
+            );
         out = rw end x.out;
         within =
             subst Within (sym x.console)

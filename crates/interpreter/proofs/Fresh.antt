@@ -19,20 +19,22 @@ use Rattle.answers.specs.Written.{written, writing}
 use Rattle.interpreter.specs.Lines.{line_max, fresh, start_line}
 use Rattle.interpreter.specs.Session.{unit, Pending, Mode, ready}
 use Rattle.interpreter.specs.Parts.{stores, stepped, SetsUp, begun, Starts}
-use Rattle.interpreter.specs.Standing.{Memory, memory, Lends, Within, unit_in, mode_in}
+use Rattle.interpreter.specs.Standing.{Within, unit_in, mode_in}
+use Rattle.interpreter.specs.declared.buffers.Memory.{Memory}
 use Rattle.interpreter.specs.declared.console.Console.{Console}
 use Rattle.interpreter.specs.declared.console.Stepped.{Stepped}
+use Rattle.interpreter.proofs.Bytes.{memory}
 
 -- what start-up is lent, with the first bytes of a text
-abbrev pub lent_by : Host → List ℕ → List ℕ → List ℕ → List ℕ → List ℕ → Lent
-lent_by h text arena undo ids id =
+abbrev pub lent_by : Host → Memory → List ℕ → Lent
+lent_by h m id =
     record {
-      text = take h.size text;
+      text = take h.size m.text;
       text_base = h.base;
-      arena = arena;
+      arena = m.arena;
       arena_base = h.arena;
-      undo = undo;
-      ids = ids;
+      undo = m.undo;
+      ids = m.ids;
       build_id = id;
       cpus = h.cpus;
     }
@@ -58,22 +60,22 @@ start-refused : (l : Lent) (q : Refusal) → start_rules l ≡ Err q → start_o
 unfolding start_of refused-start
 start-refused l q e = rw e
 
-module _ (h : Host) (text arena undo ids id : List ℕ) (room : h.size ≤ length text) (sizes : stores arena undo ids ≡ true) where
-  same-config : config_for (lent_by h text arena undo ids id) ≡ config_for (fresh h id)
-  same-config = rw (length-take-le h.size text room, length-replicate {A = ℕ} h.size 0)
+module _ (h : Host) (m : Memory) (id : List ℕ) (room : h.size ≤ length m.text) (sizes : stores m.arena m.undo m.ids ≡ true) where
+  same-config : config_for (lent_by h m id) ≡ config_for (fresh h id)
+  same-config = rw (length-take-le h.size m.text room, length-replicate {A = ℕ} h.size 0)
 
   fresh-stores : stores (replicate arena_size 0) (replicate undo_size 0) (replicate ids_size 0) ≡ true
   unfolding stores_ok
   fresh-stores = refl
 
-  same-rules : start_rules (lent_by h text arena undo ids id) ≡ start_rules (fresh h id)
+  same-rules : start_rules (lent_by h m id) ≡ start_rules (fresh h id)
   unfolding start_rules
   same-rules =
-      ap (λ t. must (t && config_ok (config_for (lent_by h text arena undo ids id))) 22 Nowhere) (sizes ∙ sym fresh-stores)
+      ap (λ t. must (t && config_ok (config_for (lent_by h m id))) 22 Nowhere) (sizes ∙ sym fresh-stores)
       ∙ ap (λ k. must (stores (replicate arena_size 0) (replicate undo_size 0) (replicate ids_size 0) && config_ok k) 22 Nowhere) same-config
 
-  module _ (r : Called) (arena' undo' ids' : List ℕ) (e : started r arena' undo' ids' ≡ start_of (lent_by h text arena undo ids id)) where
-    by-verdict : (v : Verdict) → start_rules (fresh h id) ≡ v → SetsUp h id r arena undo ids arena' undo' ids'
+  module _ (r : Called) (arena' undo' ids' : List ℕ) (e : started r arena' undo' ids' ≡ start_of (lent_by h m id)) where
+    by-verdict : (v : Verdict) → start_rules (fresh h id) ≡ v → SetsUp h id r m (memory m.text arena' undo' ids' m.id)
     unfolding accepted-start refused-start
     by-verdict (Ok _) v =
         let old = e ∙ start-accepted _ (same-rules ∙ v) in
@@ -94,17 +96,19 @@ module _ (h : Host) (text arena undo ids id : List ℕ) (room : h.size ≤ lengt
         let new = start-refused (fresh h id) q v in
         record {
           answer = ap (λ x. x.answer) old ∙ sym (ap (λ x. x.answer) new);
-          refused = λ q' e'. (ap (λ x. x.arena) old, ap (λ x. x.undo) old, ap (λ x. x.ids) old);
+          refused = λ q' e'. ap (λ x. memory m.text x.arena x.undo x.ids m.id) old;
           accepted = λ e'. absurd (pass-refuses (sym e' ∙ ap (λ x. x.answer) old));
         }
 
-    pub sets-up : SetsUp h id r arena undo ids arena' undo' ids'
+    pub sets-up : SetsUp h id r m (memory m.text arena' undo' ids' m.id)
     sets-up = by-verdict (start_rules (fresh h id)) refl
 
 -- memory of the right sizes
-pub lent-stores : (m : Memory) → Lends m → stores m.arena m.undo m.ids ≡ true
+pub lent-stores :
+    (m : Memory) → length m.arena ≡ arena_size → length m.undo ≡ undo_size → length m.ids ≡ ids_size →
+    stores m.arena m.undo m.ids ≡ true
 unfolding stores_ok
-lent-stores m l = rw (eq-eqb _ _ l.arena, eq-eqb _ _ l.undo, eq-eqb _ _ l.ids)
+lent-stores m arena undo ids = rw (eq-eqb _ _ arena, eq-eqb _ _ undo, eq-eqb _ _ ids)
 
 -- ---- the line's answer
 
@@ -128,14 +132,12 @@ module _ (n : ℕ) (mode : Mode) (h : Host) (id : List ℕ) where
 
 -- of another build-id that is the same
 pub set-up-with :
-    {h : Host} {id id' : List ℕ} {r : Called} {arena undo ids arena' undo' ids' : List ℕ} → id ≡ id' →
-    SetsUp h id r arena undo ids arena' undo' ids' → SetsUp h id' r arena undo ids arena' undo' ids'
-set-up-with {h} {id} {id'} {r} {arena} {undo} {ids} {arena'} {undo'} {ids'} e x =
-    subst (λ id. SetsUp h id r arena undo ids arena' undo' ids') e x
+    {h : Host} {id id' : List ℕ} {r : Called} {m m' : Memory} → id ≡ id' → SetsUp h id r m m' → SetsUp h id' r m m'
+set-up-with {h} {id} {id'} {r} {m} {m'} e x = subst (λ id. SetsUp h id r m m') e x
 
 module _
-    (c : Console) (s : State) (h : Host) (id : List ℕ) (m : Memory) (r : Called) (arena' undo' ids' : List ℕ)
-    (x : SetsUp h id r m.arena m.undo m.ids arena' undo' ids') where
+    (c : Console) (s : State) (h : Host) (id : List ℕ) (m : Memory) (r : Called) (m' : Memory)
+    (x : SetsUp h id r m m') where
   -- the answer is written
   line-written :
       (n : ℕ) (from to : List ℕ) → written to n ≡ writing from 0 (verdict_line r.verdict) →
@@ -145,16 +147,15 @@ module _
   -- refused, what stood stands
   stands :
       (p : Pending) (q : Refusal) → r.verdict ≡ Err q →
-      mode_in c.mode (unit_in c s (memory m.text arena' undo' ids' m.id)) p
+      mode_in c.mode (unit_in c s m') p
       ≡ (start_line c.lines (mode_in c.mode (unit_in c s m) p) h id).session.mode
   stands p q refused =
-      let kept = x.refused q refused in
-      rw (kept.0, kept.1, kept.2)
+      rw (x.refused q refused)
       (sym (line_refused c.lines (mode_in c.mode (unit_in c s m) p) h id q (sym x.answer ∙ refused)))
 
   pub stands-starts :
       Within c → (q : Refusal) → r.verdict ≡ Err q → (n : ℕ) (from to : List ℕ) → written to n ≡ writing from 0 (verdict_line r.verdict) →
-      Starts c s h id m (stepped c s n) (memory m.text arena' undo' ids' m.id) from to
+      Starts c s h id m (stepped c s n) m' from to
   stands-starts within q refused n from to out =
       record { lines = refl; mode = λ p. stands p q refused; out = line-written n from to out; within = within }
 
@@ -162,11 +163,11 @@ module _
   begins :
       (p : Pending) (t : Stepped) (text' id' new : List ℕ) (n : ℕ) → t ≡ begun c r.state h.size (length new) n → r.verdict ≡ Ok tt →
       new ≡ id → take h.size text' ≡ replicate h.size 0 → take (length new) id' ≡ new →
-      mode_in t.console.mode (unit_in t.console t.state (memory text' arena' undo' ids' id')) p
+      mode_in t.console.mode (unit_in t.console t.state (memory text' m'.arena m'.undo m'.ids id')) p
       ≡ (start_line c.lines (mode_in c.mode (unit_in c s m) p) h id).session.mode
   begins p t text' id' new n e accepted given zeros kept =
       let same = x.accepted accepted in
-      ap (λ t. mode_in t.console.mode (unit_in t.console t.state (memory text' arena' undo' ids' id')) p) e
+      ap (λ t. mode_in t.console.mode (unit_in t.console t.state (memory text' m'.arena m'.undo m'.ids id')) p) e
       ∙ rw (kept, given, zeros, same.0, same.1, same.2, same.3)
       (sym (line-accepted c.lines (mode_in c.mode (unit_in c s m) p) h id (sym x.answer ∙ accepted)))
 
@@ -175,7 +176,7 @@ module _
       t ≡ begun c r.state h.size (length new) n → r.verdict ≡ Ok tt → new ≡ id →
       take h.size text' ≡ replicate h.size 0 → take (length new) id' ≡ new →
       (from to : List ℕ) → written to n ≡ writing from 0 (verdict_line r.verdict) →
-      Starts c s h id m t (memory text' arena' undo' ids' id') from to
+      Starts c s h id m t (memory text' m'.arena m'.undo m'.ids id') from to
   begins-starts size t text' id' new n room e accepted given zeros kept from to out =
       record {
         lines = ap (λ t. t.console.lines) e;

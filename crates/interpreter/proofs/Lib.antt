@@ -1,4 +1,5 @@
 pub mod Answering
+pub mod Bytes
 pub mod Fresh
 pub mod Front
 pub mod Lists

@@ -10,7 +10,8 @@ use Rattle.answers.specs.Answers.{verdict_line}
 use Rattle.answers.specs.Written.{written, writing}
 use Rattle.interpreter.specs.Lines.{fresh, start_line, number_after}
 use Rattle.interpreter.specs.Session.{Pending}
-use Rattle.interpreter.specs.Standing.{Memory, unit_in, mode_in, Within}
+use Rattle.interpreter.specs.Standing.{unit_in, mode_in, Within}
+use Rattle.interpreter.specs.declared.buffers.Memory.{Memory}
 use Rattle.interpreter.specs.declared.console.Console.{Console}
 use Rattle.interpreter.specs.declared.console.Mode as declared
 use Rattle.interpreter.specs.declared.console.Mode.TheVariants.{Ready, Payload}
@@ -54,15 +55,15 @@ abbrev pub stores : List ℕ → List ℕ → List ℕ → Bool
 stores arena undo ids = start.stores_ok (length arena) (length undo) (length ids)
 
 -- the answer is that on fresh memory; refused, nothing is changed; accepted, state and memory are the fresh ones
-pub record SetsUp (h : Host) (id : List ℕ) (r : Called) (arena undo ids arena' undo' ids' : List ℕ) : Type 0 where
+pub record SetsUp (h : Host) (id : List ℕ) (r : Called) (m m' : Memory) : Type 0 where
   pub answer : r.verdict ≡ (start.start_of (fresh h id)).answer
-  pub refused : (q : Refusal) → r.verdict ≡ Err q → (arena' ≡ arena) × (undo' ≡ undo) × (ids' ≡ ids)
+  pub refused : (q : Refusal) → r.verdict ≡ Err q → m' ≡ m
   pub accepted :
       r.verdict ≡ Ok tt →
       (r.state ≡ (start.start_of (fresh h id)).state)
-      × (arena' ≡ (start.start_of (fresh h id)).arena)
-      × (undo' ≡ (start.start_of (fresh h id)).undo)
-      × (ids' ≡ (start.start_of (fresh h id)).ids)
+      × (m'.arena ≡ (start.start_of (fresh h id)).arena)
+      × (m'.undo ≡ (start.start_of (fresh h id)).undo)
+      × (m'.ids ≡ (start.start_of (fresh h id)).ids)
 
 -- the console after an accepted one
 abbrev pub begun : Console → State → ℕ → ℕ → ℕ → Stepped
@@ -91,12 +92,15 @@ grown c s file =
     stepped
     (record { lines = c.lines; mode = c.mode; text = c.text; id = c.id; name = c.name; list = c.list; file = file }) s 0
 
--- its end
-pub record Ends (c : Console) (s : State) (p : Pending) (arena ids : List ℕ) (r : Stepped) (arena' ids' from to : List ℕ) : Type 0 where
+-- its end; what the loader is not lent for it stays
+pub record Ends (c : Console) (s : State) (p : Pending) (m : Memory) (r : Stepped) (m' : Memory) (from to : List ℕ) : Type 0 where
   pub console : r.console ≡ with_mode c Ready
-  pub state : r.state ≡ (upload.upload_of s (upload.lent arena ids) (upload.request p.name p.list p.file)).state
-  pub memory : upload.lent arena' ids' ≡ (upload.upload_of s (upload.lent arena ids) (upload.request p.name p.list p.file)).after
+  pub state : r.state ≡ (upload.upload_of s (upload.lent m.arena m.ids) (upload.request p.name p.list p.file)).state
+  pub memory :
+      upload.lent m'.arena m'.ids
+      ≡ (upload.upload_of s (upload.lent m.arena m.ids) (upload.request p.name p.list p.file)).after
+  pub kept : (m'.text ≡ m.text) × (m'.undo ≡ m.undo) × (m'.id ≡ m.id)
   pub out :
       written to r.written
       ≡ writing from 0
-      (verdict_line (upload.upload_of s (upload.lent arena ids) (upload.request p.name p.list p.file)).answer)
+      (verdict_line (upload.upload_of s (upload.lent m.arena m.ids) (upload.request p.name p.list p.file)).answer)

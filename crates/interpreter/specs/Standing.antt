@@ -1,35 +1,17 @@
 -- How the console's numbers, the loader's state and the buffers stand for a session.
-use Rattle.std.specs.Prelude.{◌≡◌, ℕ, ◌+◌, ◌*◌, ◌≤◌, List, length, take}
-use Rattle.memory.specs.Memory.{slot_count, arena_size, undo_size, ids_size}
+use Rattle.std.specs.Prelude.{◌≡◌, ℕ, ◌+◌, ◌*◌, ◌≤◌, List, take}
+use Rattle.memory.specs.Memory.{slot_count}
 use Rattle.state.specs.declared.state.State.{State}
 use Rattle.script.specs.Command.{size_most}
 use Rattle.answers.specs.Written.{written, writing, line_room}
 use Rattle.interpreter.specs.Lines.{Answer, line_max, kept_max}
 use Rattle.interpreter.specs.Session.{Unit, unit, Pending, pending, Mode, off, ready, payload, dropped, Session, session}
+use Rattle.interpreter.specs.declared.buffers.Gathered.{Gathered}
+use Rattle.interpreter.specs.declared.buffers.Memory.{Memory}
 use Rattle.interpreter.specs.declared.console.Console.{Console}
 use Rattle.interpreter.specs.declared.console.Mode as declared
 use Rattle.interpreter.specs.declared.console.Stepped.{Stepped}
 use Rattle.interpreter.specs.declared.console.Mode.TheVariants.{Off, Ready, Payload, Dropped}
-
--- what the loader is lent, with room for the largest text and id
-pub record Memory : Type 0 where
-  pub text : List ℕ
-  pub arena : List ℕ
-  pub undo : List ℕ
-  pub ids : List ℕ
-  pub id : List ℕ
-
-abbrev pub memory : List ℕ → List ℕ → List ℕ → List ℕ → List ℕ → Memory
-memory text arena undo ids id = record { text = text; arena = arena; undo = undo; ids = ids; id = id }
-
--- what an upload gathers
-pub record Gathered : Type 0 where
-  pub name : List ℕ
-  pub list : List ℕ
-  pub file : List ℕ
-
-abbrev pub gathered : List ℕ → List ℕ → List ℕ → Gathered
-gathered name list file = record { name = name; list = list; file = file }
 
 -- of text, id, name, list and file the first bytes count, as many as the console's numbers say
 abbrev pub unit_in : Console → State → Memory → Unit
@@ -55,20 +37,7 @@ name_room = line_max + 1
 abbrev pub out_room : ℕ
 out_room = line_room * (slot_count + 1)
 
--- the buffers have their sizes
-pub record Lends (m : Memory) : Type 0 where
-  pub text : length m.text ≡ size_most
-  pub arena : length m.arena ≡ arena_size
-  pub undo : length m.undo ≡ undo_size
-  pub ids : length m.ids ≡ ids_size
-  pub id : length m.id ≡ line_max
-
-pub record Gathers (g : Gathered) : Type 0 where
-  pub name : length g.name ≡ name_room
-  pub list : length g.list ≡ line_max
-  pub file : length g.file ≡ kept_max
-
--- what counts lies within them
+-- what counts lies within the buffers
 pub record Within (c : Console) : Type 0 where
   pub text : c.text ≤ size_most
   pub id : c.id ≤ line_max

@@ -1,12 +1,13 @@
 // Answers at the front of `out`: a bad line, what a call said, what get and list say; and an action by the line's name.
-ghost use Rattle.std.specs.Prelude.{◌≡◌, ◌<◌, ◌≤◌, length};
+ghost use Rattle.std.specs.Prelude.{◌≡◌, ◌≤◌, length, take};
 ghost use Rattle.actions.specs.Actions.{acted, lent, request, action_of};
 ghost use Rattle.queries.specs.Get.{get_of};
 ghost use Rattle.answers.specs.Answers.{bad_line, verdict_line, got_line, list_lines};
-ghost use Rattle.interpreter.specs.Lines.{name_in, listed};
+ghost use Rattle.interpreter.specs.Lines.{line_max, name_in, listed};
 ghost use Rattle.interpreter.specs.Parts.{Says};
-ghost use Rattle.interpreter.specs.Standing.{out_room};
+ghost use Rattle.interpreter.specs.Standing.{out_room, Within};
 
+use super::buffers::{Gathered, Memory};
 use super::console::{Console, Stepped};
 use super::fields;
 use answers::{lines, listed};
@@ -48,14 +49,14 @@ pub(crate) fn get(
     console: Console,
     state: State,
     line: &[u8],
-    name: &mut [u8],
+    gathered: &mut Gathered,
     out: &mut [u8],
 ) -> Stepped
-    requires { (length line.now < length name.old) × (out_room ≤ length out.old) }
+    requires { (length line.now ≤ line_max) × (out_room ≤ length out.old) }
     ensures { Says console state (got_line (get_of state (name_in line.now))) result out.old out.new }
 {
-    let n = fields::keep_name(line, name);
-    let got = queries::get::get(state, &name[..n]);
+    let n = fields::keep_name(line, &mut gathered.name);
+    let got = queries::get::get(state, &gathered.name[..n]);
     let written = lines::got(out, 0, got);
     Stepped {
         console,
@@ -90,20 +91,30 @@ pub(crate) fn list(console: Console, state: State, out: &mut [u8]) -> Stepped
 
 // An action on the payload that the line names.
 pub(crate) fn act(
+    console: Console,
     state: State,
-    arena: &mut [u8],
-    undo: &mut [u8],
-    ids: &mut [u8],
-    id: &[u8],
+    memory: &mut Memory,
+    gathered: &mut Gathered,
     line: &[u8],
-    name: &mut [u8],
     q: Request,
 ) -> Called
-    requires { length line.now < length name.old }
-    ensures { acted result (lent arena.new undo.new ids.new)
-        ≡ action_of state id.now (lent arena.old undo.old ids.old)
+    requires { (length line.now ≤ line_max) × Within console }
+    ensures answer { acted result (lent memory.new.arena memory.new.undo memory.new.ids)
+        ≡ action_of state (take console.id memory.old.id)
+        (lent memory.old.arena memory.old.undo memory.old.ids)
         (request (name_in line.now) q.action q.time) }
+    ensures kept { (memory.new.text ≡ memory.old.text) × (memory.new.id ≡ memory.old.id) }
 {
-    let n = fields::keep_name(line, name);
-    actions::action::action(state, arena, undo, ids, id, &name[..n], q.action, q.time)
+    let name_size = fields::keep_name(line, &mut gathered.name);
+    let id_size = console.id;
+    actions::action::action(
+        state,
+        &mut memory.arena,
+        &mut memory.undo,
+        &mut memory.ids,
+        &memory.id[..id_size],
+        &gathered.name[..name_size],
+        q.action,
+        q.time,
+    )
 }

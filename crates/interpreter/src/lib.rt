@@ -2,6 +2,7 @@
 #![tactic(auto)]
 
 mod asking;
+pub mod buffers;
 pub mod console;
 mod fields;
 pub mod lines;

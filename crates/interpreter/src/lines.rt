@@ -1,14 +1,20 @@
 // One line: as a command, as a payload's, or as a dropped payload's.
-ghost use Rattle.std.specs.Prelude.{◌≡◌, ℕ, ◌≤◌, List, length};
-ghost use Rattle.interpreter.specs.Lines.{line_max, command_in, off_line, ready_line, payload_line, dropped_line, line_of};
-ghost use Rattle.interpreter.specs.Standing.{memory, gathered, unit_in, pending_in, standing, name_room, out_room, Lends, Gathers, Within, Gives, Gathered, Memory};
+ghost use Rattle.std.specs.Prelude.{◌≡◌, ℕ, ◌≤◌, List, length, take};
+ghost use Rattle.script.specs.Command.{size_most};
+ghost use Rattle.work.specs.Work.{lent, worked_with, work_of};
+ghost use Rattle.interpreter.specs.Lines.{command_in, off_line, ready_line, payload_line, dropped_line, line_of};
+ghost use Rattle.interpreter.specs.Standing.{unit_in, pending_in, standing, out_room, Within, Gives};
+ghost use Rattle.interpreter.specs.declared.buffers.Gathered.{Gathered};
+ghost use Rattle.interpreter.specs.declared.buffers.Memory.{Memory};
 ghost use Rattle.interpreter.specs.declared.console.Mode.TheVariants.{Off, Ready, Payload, Dropped};
 
+use super::buffers::{Gathered, Memory};
 use super::console::{Console, Mode, Stepped};
 use super::{asking, starting, uploading};
+use memory::config::Config;
 use script::command;
 use script::command::Command;
-use state::state::State;
+use state::state::{Called, State};
 
 // The command of a line that is not too long.
 fn command_in(line: &[u8]) -> Option<Command>
@@ -25,21 +31,14 @@ fn off_line(
     console: Console,
     state: State,
     command: Option<Command>,
-    text: &mut [u8],
-    arena: &mut [u8],
-    undo: &mut [u8],
-    ids: &mut [u8],
-    id: &mut [u8],
-    list: &mut [u8],
+    memory: &mut Memory,
+    gathered: &mut Gathered,
     line: &[u8],
     out: &mut [u8],
 ) -> Stepped
-    requires lends { Lends (memory text.old arena.old undo.old ids.old id.old) }
     requires command_value { (command ≡ command_in line.now) × (console.mode ≡ Off) × Within console }
-    requires list_len { (length list.old ≡ line_max) × (out_room ≤ length out.old) }
-    ensures { (g : Gathered) → Gives (off_line console.lines line.now command) result
-        (memory text.new arena.new undo.new ids.new id.new) g
-        out.old out.new }
+    requires room { out_room ≤ length out.old }
+    ensures { Gives (off_line console.lines line.now command) result memory.new gathered.new out.old out.new }
 {
     let Some(command) = command else {
         return asking::bad(console, state, out);
@@ -47,9 +46,21 @@ fn off_line(
     let Command::Start(host) = command else {
         return asking::bad(console, state, out);
     };
-    starting::start(
-        console, state, host, text, arena, undo, ids, id, list, line, out,
-    )
+    starting::start(console, state, host, memory, gathered, line, out)
+}
+
+// The loader's work on the text, of which the first bytes count.
+fn work(
+    state: State,
+    n: usize,
+    text: &mut [u8; Console::TEXT_MAX],
+    undo: &mut [u8; Config::UNDO_SIZE],
+) -> Called
+    requires { n ≤ size_most }
+    ensures { worked_with result (lent (take n text.new) undo.new)
+        ≡ work_of state (lent (take n text.old) undo.old) }
+{
+    work::work::work(state, &mut text[..n], undo)
 }
 
 // A command after it.
@@ -57,47 +68,33 @@ fn ready_line(
     console: Console,
     state: State,
     command: Option<Command>,
-    text: &mut [u8],
-    arena: &mut [u8],
-    undo: &mut [u8],
-    ids: &mut [u8],
-    id: &mut [u8],
-    name: &mut [u8],
-    list: &mut [u8],
+    memory: &mut Memory,
+    gathered: &mut Gathered,
     line: &[u8],
     out: &mut [u8],
 ) -> Stepped
-    requires lends { Lends (memory text.old arena.old undo.old ids.old id.old) }
     requires command_value { (command ≡ command_in line.now) × (console.mode ≡ Ready) × Within console }
-    requires name_len { (length name.old ≡ name_room) × (length list.old ≡ line_max) × (out_room ≤ length out.old) }
-    ensures { (file : List ℕ) → Gives
-        (ready_line console.lines (unit_in console state (memory text.old arena.old undo.old ids.old id.old))
-        line.now command)
-        result
-        (memory text.new arena.new undo.new ids.new id.new)
-        (gathered name.new list.new file)
-        out.old out.new }
+    requires room { out_room ≤ length out.old }
+    ensures { Gives (ready_line console.lines (unit_in console state memory.old) line.now command)
+        result memory.new gathered.new out.old out.new }
 {
     let Some(command) = command else {
         return asking::bad(console, state, out);
     };
     match command {
-        Command::Start(host) => starting::start(
-            console, state, host, text, arena, undo, ids, id, list, line, out,
-        ),
-        Command::Upload => uploading::open(console, state, name, list, line),
-        Command::Get => asking::get(console, state, line, name, out),
+        Command::Start(host) => starting::start(console, state, host, memory, gathered, line, out),
+        Command::Upload => uploading::open(console, state, gathered, line),
+        Command::Get => asking::get(console, state, line, gathered, out),
         Command::List => asking::list(console, state, out),
         Command::Act(q) => {
-            let n = console.id;
-            let called = asking::act(state, arena, undo, ids, &id[..n], line, name, q);
+            let called = asking::act(console, state, memory, gathered, line, q);
             asking::told(console, called, out)
         }
         Command::Report(cpu) => asking::told(console, rendezvous::report(state, cpu), out),
         Command::Tick => asking::told(console, rendezvous::tick(state), out),
         Command::Work => {
             let n = console.text;
-            let called = work::work::work(state, &mut text[..n], undo);
+            let called = work(state, n, &mut memory.text, &mut memory.undo);
             asking::told(console, called, out)
         }
     }
@@ -107,26 +104,21 @@ fn ready_line(
 fn payload_line(
     console: Console,
     state: State,
-    arena: &mut [u8],
-    ids: &mut [u8],
-    name: &[u8],
-    list: &[u8],
-    file: &mut [u8],
+    memory: &mut Memory,
+    gathered: &mut Gathered,
     line: &[u8],
     out: &mut [u8],
 ) -> Stepped
-    requires { Gathers (gathered name.now list.now file.old) × (console.mode ≡ Payload) × Within console × (out_room ≤ length out.old) }
-    ensures { (text undo id : List ℕ) → Gives
-        (payload_line console.lines (unit_in console state (memory text arena.old undo ids.old id))
-        (pending_in console (gathered name.now list.now file.old)) line.now)
-        result (memory text arena.new undo ids.new id)
-        (gathered name.now list.now file.new) out.old out.new }
+    requires { (console.mode ≡ Payload) × Within console × (out_room ≤ length out.old) }
+    ensures { Gives
+        (payload_line console.lines (unit_in console state memory.old) (pending_in console gathered.old) line.now)
+        result memory.new gathered.new out.old out.new }
 {
     if uploading::is_end(line) {
-        return uploading::finish(console, state, arena, ids, name, list, file, out);
+        return uploading::finish(console, state, memory, gathered, out);
     }
     if uploading::is_hex(line) {
-        return uploading::gather(console, state, file, line);
+        return uploading::gather(console, state, &mut gathered.file, line);
     }
     asking::bad(console.with_mode(Mode::Dropped), state, out)
 }
@@ -155,59 +147,21 @@ fn dropped_line(console: Console, state: State, line: &[u8]) -> Stepped
 pub fn line(
     console: Console,
     state: State,
-    text: &mut [u8],
-    arena: &mut [u8],
-    undo: &mut [u8],
-    ids: &mut [u8],
-    id: &mut [u8],
-    name: &mut [u8],
-    list: &mut [u8],
-    file: &mut [u8],
+    memory: &mut Memory,
+    gathered: &mut Gathered,
     line: &[u8],
     out: &mut [u8],
 ) -> Stepped
-    requires lends { Lends (memory text.old arena.old undo.old ids.old id.old) × Gathers (gathered name.old list.old file.old) }
-    requires within { Within console × (out_room ≤ length out.old) }
-    ensures { Gives
-        (line_of (standing console state (memory text.old arena.old undo.old ids.old id.old)
-        (gathered name.old list.old file.old))
-        line.now)
-        result
-        (memory text.new arena.new undo.new ids.new id.new)
-        (gathered name.new list.new file.new)
-        out.old out.new }
+    requires { Within console × (out_room ≤ length out.old) }
+    ensures { Gives (line_of (standing console state memory.old gathered.old) line.now)
+        result memory.new gathered.new out.old out.new }
 {
     let next = console.counted();
     let mode = console.mode;
     match mode {
-        Mode::Off => off_line(
-            next,
-            state,
-            command_in(line),
-            text,
-            arena,
-            undo,
-            ids,
-            id,
-            list,
-            line,
-            out,
-        ),
-        Mode::Ready => ready_line(
-            next,
-            state,
-            command_in(line),
-            text,
-            arena,
-            undo,
-            ids,
-            id,
-            name,
-            list,
-            line,
-            out,
-        ),
-        Mode::Payload => payload_line(next, state, arena, ids, name, list, file, line, out),
+        Mode::Off => off_line(next, state, command_in(line), memory, gathered, line, out),
+        Mode::Ready => ready_line(next, state, command_in(line), memory, gathered, line, out),
+        Mode::Payload => payload_line(next, state, memory, gathered, line, out),
         Mode::Dropped => dropped_line(next, state, line),
     }
 }

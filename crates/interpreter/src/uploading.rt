@@ -1,32 +1,27 @@
 // An upload: its first line, the lines of its payload, and its end.
-ghost use Rattle.std.specs.Prelude.{◌≡◌, ◌<◌, ◌≤◌, true, ◌&&◌, ◌++◌, length, take, nat_le};
+ghost use Rattle.std.specs.Prelude.{◌≡◌, ◌≤◌, true, ◌&&◌, ◌++◌, length, take, nat_le};
 ghost use Rattle.script.specs.Fields.{field_of};
 ghost use Rattle.script.specs.Hex.{is_hex, hex_bytes};
 ghost use Rattle.interpreter.specs.Lines.{line_max, kept_max, name_in, list_in, is_end};
 ghost use Rattle.interpreter.specs.Parts.{Holds, opened, grown, Ends};
-ghost use Rattle.interpreter.specs.Standing.{gathered, pending_in, out_room, Gathers, Within};
+ghost use Rattle.interpreter.specs.Standing.{pending_in, out_room, Within};
 
+use super::buffers::{Gathered, Memory};
 use super::console::{Console, Mode, Stepped};
 use super::{asking, fields};
 use script::hex;
 use state::state::State;
 
 // The name and the symbol list of an upload, whose payload follows.
-pub(crate) fn open(
-    console: Console,
-    state: State,
-    name: &mut [u8],
-    list: &mut [u8],
-    line: &[u8],
-) -> Stepped
-    requires line_in_bounds { (length line.now < length name.old) × (length line.now ≤ length list.old) }
-    requires line_value { is_hex (field_of line.now 2) ≡ true }
+pub(crate) fn open(console: Console, state: State, gathered: &mut Gathered, line: &[u8]) -> Stepped
+    requires { Within console × (length line.now ≤ line_max) × (is_hex (field_of line.now 2) ≡ true) }
     ensures value { result ≡ opened console state result.console.name result.console.list }
-    ensures holds { Holds name.new result.console.name (name_in line.now)
-        × Holds list.new result.console.list (list_in line.now) }
+    ensures holds { Holds gathered.new.name result.console.name (name_in line.now)
+        × Holds gathered.new.list result.console.list (list_in line.now) }
+    ensures within { Within result.console }
 {
-    let name_size = fields::keep_name(line, name);
-    let list_size = fields::keep_hex(line, 2, list);
+    let name_size = fields::keep_name(line, &mut gathered.name);
+    let list_size = fields::keep_hex(line, 2, &mut gathered.list);
     Stepped {
         console: Console {
             lines: console.lines,
@@ -59,8 +54,13 @@ pub(crate) fn is_hex(line: &[u8]) -> bool
 }
 
 // A line of hex behind the bytes that were gathered, as far as they are kept.
-pub(crate) fn gather(console: Console, state: State, file: &mut [u8], line: &[u8]) -> Stepped
-    requires { (console.file ≤ kept_max) × (length file.old ≡ kept_max) × (is_hex line.now ≡ true) }
+pub(crate) fn gather(
+    console: Console,
+    state: State,
+    file: &mut [u8; Console::FILE_ROOM],
+    line: &[u8],
+) -> Stepped
+    requires { (console.file ≤ kept_max) × (is_hex line.now ≡ true) }
     ensures { (result ≡ grown console state result.console.file) × (result.console.file ≤ kept_max)
         × (take result.console.file file.new
         ≡ take kept_max (take console.file file.old ++ hex_bytes line.now)) }
@@ -81,27 +81,23 @@ pub(crate) fn gather(console: Console, state: State, file: &mut [u8], line: &[u8
 pub(crate) fn finish(
     console: Console,
     state: State,
-    arena: &mut [u8],
-    ids: &mut [u8],
-    name: &[u8],
-    list: &[u8],
-    file: &[u8],
+    memory: &mut Memory,
+    gathered: &Gathered,
     out: &mut [u8],
 ) -> Stepped
-    requires { Gathers (gathered name.now list.now file.now) × Within console × (out_room ≤ length out.old) }
-    ensures { Ends console state (pending_in console (gathered name.now list.now file.now))
-        arena.old ids.old result arena.new ids.new out.old out.new }
+    requires { Within console × (out_room ≤ length out.old) }
+    ensures { Ends console state (pending_in console gathered.now) memory.old result memory.new out.old out.new }
 {
     let name_size = console.name;
     let list_size = console.list;
     let file_size = console.file;
     let called = upload::upload::upload(
         state,
-        arena,
-        ids,
-        &name[..name_size],
-        &list[..list_size],
-        &file[..file_size],
+        &mut memory.arena,
+        &mut memory.ids,
+        &gathered.name[..name_size],
+        &gathered.list[..list_size],
+        &gathered.file[..file_size],
     );
     asking::told(console.with_mode(Mode::Ready), called, out)
 }

@@ -1,8 +1,6 @@
--- `run_bytes` meets its contract: the buffers are ready at each byte.
-use Rattle.interpreter.specs.Standing.{memory, gathered}
+-- `run_bytes` meets its contract: what counts lies within the buffers at each byte.
 use Rattle.console.specs.Buffers.{Ready}
 use Rattle.console.proofs.run_bytes.Given as goal
 
 abbrev pub invariant-loop-b : goal.invariant-loop-b
-invariant-loop-b l =
-    Ready l.run.console l.run.held (memory l.text l.arena l.undo l.ids l.id) (gathered l.name l.list l.file) l.line l.out
+invariant-loop-b l = Ready l.run.console l.run.held

@@ -1,5 +1,5 @@
 -- `asking::get` meets its contract: the name is kept, looked up, and what is found is written.
-use Rattle.std.proofs.Common.{sym, refl, ap, ◌∙◌, length-take-le}
+use Rattle.std.proofs.Common.{refl, ap, ◌∙◌}
 use Rattle.queries.specs.Get.{get_of}
 use Rattle.answers.specs.Answers.{got_line}
 use Rattle.answers.specs.Written.{writing}
@@ -13,9 +13,3 @@ returns c = let a = c.args in
       state = refl;
       out = c.got-written.ensures ∙ ap (λ got. writing a.out.now 0 (got_line got)) name;
     }
-
-pub slice_bounds-get-end : goal.slice_bounds-get-end
-slice_bounds-get-end c = c.keep_name-n.ensures.room
-
-pub slice_bounds-get-end-2 : goal.slice_bounds-get-end-2
-slice_bounds-get-end-2 c = sym (length-take-le _ _ c.keep_name-n.ensures.room)

@@ -2,7 +2,7 @@
 use Rattle.std.proofs.Common.{Some, ap, ◌∙◌}
 use Rattle.interpreter.specs.Lines.{id_in, off_line}
 use Rattle.interpreter.specs.Session.{off}
-use Rattle.interpreter.specs.Standing.{memory, unit_in, mode_in}
+use Rattle.interpreter.specs.Standing.{unit_in, mode_in}
 use Rattle.interpreter.proofs.Answering.{gives, off-bad, start_gives}
 use Rattle.interpreter.proofs.Readable.{read_as}
 use Rattle.interpreter.proofs.lines.off_line.Goals as goal
@@ -13,31 +13,28 @@ start-requires-clause-within c = let read = read_as c.args.line.now c.requires.c
 
 pub start-requires-clause-line_len_bound : goal.start-requires-clause-line_len_bound
 start-requires-clause-line_len_bound c = let read = read_as c.args.line.now c.requires.command_value.0 (c.in-Some.is ∙ ap Some c.in-Start.is) in
-    (read.0, c.requires.list_len.0, c.requires.list_len.1)
+    (read.0, c.requires.room)
 
 pub returns : goal.returns
 unfolding off_line
 returns c = let a = c.args in
-    let m = memory a.text.now a.arena.now a.undo.now a.ids.now a.id.now in
+    let m = a.memory.now in
     let command = ap (off_line a.console.lines a.line.now) (c.in-Some.is ∙ ap Some c.in-Start.is) in
-    λ g.
     rw command
-    (start_gives a.console a.state c.in-Start.host (id_in a.line.now) m _ _ _ _ g off c.start.ensures
+    (start_gives a.console a.state c.in-Start.host (id_in a.line.now) m _ _ _ _ _ off c.start.ensures
     (λ p. ap (λ mode. mode_in mode (unit_in a.console a.state m) p) c.requires.command_value.1))
 
 pub returns-in_default : goal.returns-in_default
 unfolding off_line
 returns-in_default c = let a = c.args in
-    let m = memory a.text.now a.arena.now a.undo.now a.ids.now a.id.now in
+    let m = a.memory.now in
     let command = ap (off_line a.console.lines a.line.now) c.in_default.is in
-    λ g.
-    gives a.console c.requires.command_value.2 g _ _ _ a.state m _ c.bad.ensures _
+    gives a.console c.requires.command_value.2 _ _ _ _ a.state m _ c.bad.ensures _
     (command ∙ rw c.requires.command_value.1)
 
 pub returns-in_default-command : goal.returns-in_default-command
 returns-in_default-command c = let a = c.args in
-    let m = memory a.text.now a.arena.now a.undo.now a.ids.now a.id.now in
+    let m = a.memory.now in
     let command = ap (off_line a.console.lines a.line.now) c.in-Some.is in
-    λ g.
-    gives a.console c.requires.command_value.2 g _ _ _ a.state m _ c.bad-in_default-command.ensures _
+    gives a.console c.requires.command_value.2 _ _ _ _ a.state m _ c.bad-in_default-command.ensures _
     (command ∙ off-bad a.console.lines a.line.now c.in-Some.command c.in_default-command.not-Start ∙ rw c.requires.command_value.1)

@@ -1,5 +1,5 @@
 -- `starting::begin` meets its contract: zeros over the front of the text, and the build-id kept.
-use Rattle.std.proofs.Common.{refl, arith}
+use Rattle.std.proofs.Common.{refl}
 use lib.ListN.{length-replicate}
 use Rattle.interpreter.proofs.Front.{front-written}
 use Rattle.interpreter.proofs.starting.begin.Goals as goal
@@ -10,9 +10,3 @@ returns c = let a = c.args in (
   rw c.fill.ensures (front-written a.text.now _ a.size (length-replicate a.size 0)),
   rw c.copy.ensures (front-written a.id.now a.new.now _ refl),
 )
-
-pub fill-requires : goal.fill-requires
-fill-requires c = omega (arith, c.requires.0)
-
-pub copy-requires : goal.copy-requires
-copy-requires c = omega (arith, c.requires.1)

@@ -1,11 +1,8 @@
 -- `uploading::finish` meets its contract: the first bytes of each buffer are uploaded.
-use Rattle.std.proofs.Common.{ap, ◌∙◌}
+use Rattle.std.proofs.Common.{refl, ap, ◌∙◌}
 use Rattle.answers.specs.Answers.{verdict_line}
 use Rattle.answers.specs.Written.{writing}
 use Rattle.interpreter.proofs.uploading.finish.Goals as goal
-
-pub told-requires : goal.told-requires
-told-requires c = c.requires.2
 
 pub returns : goal.returns
 returns c = let a = c.args in
@@ -15,5 +12,6 @@ returns c = let a = c.args in
       console = told.console ∙ c.with_mode.ensures;
       state = told.state ∙ ap (λ x. x.state) upload;
       memory = ap (λ x. x.after) upload;
+      kept = (refl, refl, refl);
       out = told.out ∙ ap (λ x. writing a.out.now 0 (verdict_line x.answer)) upload;
     }
