@@ -48,7 +48,10 @@ fn named_address(placed: &[u8], list: &[u8], start: u64) -> Result<u64, Reason>
         return Err(Reason::Invalid);
     }
     let search = symbols::find(list, &placed[first..end]);
-    search.found.ok_or(Reason::NotListed)
+    match search.found {
+        Some(a) => Ok(a),
+        None => Err(Reason::NotListed),
+    }
 }
 
 // The old address of a record: given, or that of a listed name.

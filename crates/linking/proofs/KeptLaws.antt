@@ -1,5 +1,5 @@
 -- What the layout and the cells say of a payload's symbols.
-use Rattle.std.proofs.Common.{Ok, Err, ℕ}
+use Rattle.std.proofs.Common.{Result, Ok, Err, ℕ}
 use Prim.Native.Nat.{ℕ, ◌+◌, ◌*◌, ◌≤◌, ◌<◌}
 use mathlib.Core.Path.{◌≡◌, refl, sym, ap, ◌∙◌}
 use mathlib.Core.Bool.{Bool, true, false}
@@ -14,13 +14,14 @@ use Rattle.words.specs.Address.{wrapping_sum}
 use Rattle.words.proofs.Tests.{both}
 use Rattle.records.specs.Limits.{sections_max}
 use Rattle.records.specs.Refusal.{reason_for}
+use Rattle.records.specs.declared.refusal.Reason.{Reason}
 use Rattle.elf.specs.Layout.{symbol_size, symbol_of}
 use Rattle.elf.specs.declared.Symbol.{Symbol}
 use Rattle.placement.specs.Placement.{is_placed, offset_of, bound_for}
 use Rattle.placement.specs.declared.Layout.{Layout}
 use Rattle.placement.proofs.PlacementLaws.{offset-kept, bound-kept, bound-past}
 use Rattle.linking.specs.Linking.{Linking}
-use Rattle.linking.specs.Kept.{symbols_max, cell_value, Kept, Stands}
+use Rattle.linking.specs.Kept.{symbols_max, cell_value, with_found, Kept, Stands, Sought}
 use Rattle.linking.specs.declared.kept.Cell.{Cell}
 use Rattle.linking.specs.declared.kept.Cell.TheVariants.{Known}
 use Rattle.linking.specs.Symbols.{home_of, stands_in, defined_value, value_by, symbol_value}
@@ -114,3 +115,14 @@ module _ (l : Linking) (cells : List Cell) (i : ℕ) (cell : Cell) (new : cell_v
     short = k.short;
     each = λ j g. holds-written (omega (arith, k.all)) j (λ other. k.each j g);
   }
+
+-- ---- what a cell says when its symbol is used
+
+module _ {l : Linking} {cells : List Cell} {strings list : List ℕ} (s : Sought l cells strings list) (i : ℕ) (known : i < symbols_max) where
+  pub cell-told : {cell : Cell} → get_or cells i (Known 0) ≡ cell → cell_value strings list cell ≡ symbol_value l i
+  cell-told e = rw (← e, ← s.names, ← s.listed) (s.kept.each i known)
+
+  -- a name that is looked up for it gives its value, and the cells say so after it
+  pub found-told : (found : Result ℕ Reason) → found ≡ symbol_value l i → Kept l (with_found cells i found)
+  found-told (Ok a) e = kept-written l cells i (Known a) e known s.kept
+  found-told (Err reason) e = s.kept

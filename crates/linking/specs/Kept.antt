@@ -1,7 +1,7 @@
 -- A payload's symbols as they are kept while it is relocated, a cell for each. A name is looked up at the symbol's first use, and the
 -- address that was found is kept.
 use Rattle.records.specs.declared.refusal.Reason.{Reason}
-use Rattle.std.specs.Prelude.{ℕ, ◌+◌, ◌/◌, ◌≤◌, ◌<◌, ◌≡◌, true, false, List, length, get_or, Ok, Err, Result}
+use Rattle.std.specs.Prelude.{ℕ, ◌+◌, ◌/◌, ◌≤◌, ◌<◌, ◌≡◌, true, false, List, length, get_or, set, Ok, Err, Result}
 use Rattle.records.specs.Limits.{file_max, sections_max}
 use Rattle.elf.specs.Layout.{symbol_size}
 use Rattle.elf.specs.Name.{name_in}
@@ -28,6 +28,11 @@ pub record Kept (l : Linking) (cells : List Cell) : Type 0 where
   pub all : length cells ≡ symbols_max
   pub short : length l.symbols ≤ file_max
   pub each : (number : ℕ) → number < symbols_max → cell_value l.strings l.list (get_or cells number (Known 0)) ≡ symbol_value l number
+
+-- the cells after the name in cell i was looked up: the address that is found is kept
+abbrev pub with_found : List Cell → ℕ → Result ℕ Reason → List Cell
+with_found cells i (Ok a) = set cells i (Known a)
+with_found cells i (Err reason) = cells
 
 -- what is known of l where its symbols are read: the slot's address, and where the sections stand
 pub record Stands (l : Linking) (slot : ℕ) (layout : Layout) : Type 0 where

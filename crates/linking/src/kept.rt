@@ -1,9 +1,10 @@
 // The symbols of a payload, kept in cells while it is relocated: what each symbol is worth, as far as it is known.
-ghost use Rattle.std.specs.Prelude.{◌≡◌, ◌≤◌, length};
+ghost use Rattle.std.specs.Prelude.{◌≡◌, ◌≤◌, ◌<◌, length};
 ghost use Rattle.records.specs.Limits.{file_max};
 ghost use Rattle.linking.specs.Linking.{Linking};
-ghost use Rattle.linking.specs.Kept.{symbols_max, cell_value, Kept, Stands, Sought};
-ghost use Rattle.linking.specs.Symbols.{undefined_value, defined_value, value_by, symbol_value};
+ghost use Rattle.elf.specs.Name.{name_in};
+ghost use Rattle.linking.specs.Kept.{symbols_max, cell_value, with_found, Kept, Stands, Sought};
+ghost use Rattle.linking.specs.Symbols.{named_value, undefined_value, defined_value, value_by, symbol_value};
 
 use super::values;
 use elf::Symbol;
@@ -99,16 +100,24 @@ pub fn read_symbols(cells: &mut [Cell], slot: u64, layout: Layout, table: &[u8])
     }
 }
 
-// What a cell says of its symbol.
-fn look_up(cell: Cell, strings: &[u8], list: &[u8]) -> Result<u64, Reason>
-    ensures { result ≡ cell_value strings.now list.now cell }
+// A name looked up for the symbol in cell i: the address that is found is kept there.
+fn look_up(
+    cells: &mut [Cell],
+    i: usize,
+    strings: &[u8],
+    list: &[u8],
+    name: u64,
+    weak: bool,
+) -> Result<u64, Reason>
+    requires { i < length cells.old }
+    ensures { (result ≡ named_value weak list.now (name_in strings.now name))
+        × (cells.new ≡ with_found cells.old i result) }
 {
-    match cell {
-        Cell::Known(value) => Ok(value),
-        Cell::Refused(reason) => Err(reason),
-        Cell::Named(name) => values::named_value(strings, list, name, false),
-        Cell::NamedWeak(name) => values::named_value(strings, list, name, true),
+    let found = values::named_value(strings, list, name, weak);
+    if let Ok(a) = found {
+        cells[i] = Cell::Known(a);
     }
+    found
 }
 
 // The value of the symbol with this number. A name is looked up once: the address that is found is kept. No file has room for
@@ -122,9 +131,11 @@ pub fn value_of(cells: &mut [Cell], strings: &[u8], list: &[u8], number: u64) ->
     if Cell::SYMBOLS_MAX <= i {
         return Err(Reason::Invalid);
     }
-    let found = look_up(cells[i], strings, list);
-    if let Ok(a) = found {
-        cells[i] = Cell::Known(a);
+    let cell = cells[i];
+    match cell {
+        Cell::Known(value) => Ok(value),
+        Cell::Refused(reason) => Err(reason),
+        Cell::Named(name) => look_up(cells, i, strings, list, name, false),
+        Cell::NamedWeak(name) => look_up(cells, i, strings, list, name, true),
     }
-    found
 }

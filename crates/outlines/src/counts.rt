@@ -15,8 +15,8 @@ fn applied_edits(outline: Outline) -> u64
     ensures { ((s : State) → Outlines outline s → result ≡ length (removals_in s (reverse (stack_of s)))) × (result < 2 ^ 36) }
 {
     let mut total = 0;
-    for slot in &outline.stack[..outline.depth] {
-        total += outline::edits_in(outline, *slot) as u64;
+    for i in 0..outline.depth {
+        total += outline::edits_in(outline, outline.stack[i]) as u64;
     }
     total
 }

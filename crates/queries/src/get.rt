@@ -36,6 +36,7 @@ pub fn answer(payload: Payload) -> Got
 }
 
 // The payload of this name.
+#[tactic(auto, unfolding(crate::specs::Get::get_of, crate::specs::Get::get_rules))]
 pub fn get(state: State, name: &[u8]) -> Result<Got, Refusal>
     ensures { result ≡ get_of state name.now }
 {

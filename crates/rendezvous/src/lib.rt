@@ -16,8 +16,8 @@ pub fn all_held(job: Job, count: usize) -> bool
     requires { count ≤ cpus_max }
     ensures { result ≡ every (λ held. held) (take count job.held) }
 {
-    for held in &job.held[..count] {
-        if !*held {
+    for i in 0..count {
+        if !job.held[i] {
             return false;
         }
     }

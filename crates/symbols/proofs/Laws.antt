@@ -141,9 +141,9 @@ module _ (s name : List ℕ) (n : ℕ) where
       let all : n - 0 ≡ n = omega arith in
       rw all (ap (answer _) (omega arith))
 
-  pub search-end : (i at : ℕ) → i ≡ n → after s name n i at ≡ answer None n
+  pub search-end : (i at : ℕ) → n ≤ i → after s name n i at ≡ answer None i
   unfolding lookup_from compared_from
-  search-end i at all =
+  search-end i at h =
       let none : n - i ≡ 0 = omega arith in
       rw none (ap (answer _) (omega arith))
 

@@ -24,6 +24,7 @@ pub fn sizes_ok(in_range: bool, arena: usize, ids: usize) -> bool
 }
 
 // The rules after the sizes: name, symbol list, 17, slot. `loaded` is where the state has that name, `free` its free slot.
+#[tactic(auto, unfolding(crate::specs::Room::room_rules))]
 pub fn find_room(
     name: &[u8],
     list: &[u8],

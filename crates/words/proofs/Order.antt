@@ -1,6 +1,6 @@
 -- Laws of `equal`, `order_of` and `comparison`: equal is the test whether two byte strings are the same, and whether `order_of` answers
 -- Same; less is a strict order; and a comparison goes on from byte to byte up to its answer.
-use Rattle.std.proofs.Common.{◌≡◌, ℕ, suc, ◌+◌, ◌<◌, Bool, true, false, ◌&&◌, eqb, ltb, ◌⊎◌, List, [], ◌∷◌, length, get_or, drop, min, refl, ap, ◌∙◌, ap₂, inl, inr, ⊎_elim, add-one, arith, drop_of_length-le, drop-cons, ltb-false, ltb-true, le-ltb, lt-ltb, eq-eqb, ne_eqb, eqb-true, Less, Equal, Greater, Ordering}
+use Rattle.std.proofs.Common.{◌≡◌, ℕ, suc, ◌+◌, ◌<◌, ◌≤◌, Bool, true, false, ◌&&◌, eqb, ltb, ◌⊎◌, List, [], ◌∷◌, length, get_or, drop, min, refl, ap, ◌∙◌, ap₂, inl, inr, ⊎_elim, add-one, arith, drop_of_length-le, drop-cons, ltb-false, ltb-true, le-ltb, lt-ltb, eq-eqb, ne_eqb, eqb-true, Less, Equal, Greater, Ordering}
 use mathlib.Core.Bool.{and-false, and-eq-true_iff, false≢true}
 use Rattle.words.specs.declared.bytes.Comparison.{Comparison}
 use Rattle.words.specs.Order.{equal, number_order, order_of, is_same, less, compared_bytes, comparison, all_zero}
@@ -156,6 +156,10 @@ module _ (a b : List ℕ) (i : ℕ) where
 
   none_more : (o : Ordering) → answer o (i + 0) ≡ answer o i
   none_more o = ap (answer o) (omega arith)
+
+  pub compared-longer : i < length a → length b ≤ i → after a b i ≡ answer Greater i
+  unfolding order_of compared_bytes
+  compared-longer ha hb = rw (drop-cons a i 0 ha, drop_of_length-le b hb) (none_more Greater)
 
   pub compared-ended :
       i ≡ min (length a) (length b) →

@@ -1,23 +1,32 @@
--- `all_held` meets its contract: all CPUs are held exactly where those left are.
-use Rattle.std.proofs.Common.{false, take, refl, sym, ◌∙◌, add-one, drop-cons, drop_of_length-le}
-use Rattle.words.specs.Find.{every}
+-- `all_held` meets its contract: all CPUs are held exactly where those from `i` on are.
+use Rattle.std.proofs.Common.{◌≡◌, ◌≤◌, false, length, refl, sym, ◌∙◌, arith}
+use Rattle.words.proofs.Find.{every-turn, every-end}
+use Rattle.memory.specs.Config.{cpus_max}
 use Rattle.rendezvous.proofs.all_held.Goals as goal
+use Rattle.rendezvous.proofs.all_held.Goals.{Start}
 
-pub loop-held-init : goal.loop-held-init
-loop-held-init c = refl
+-- a CPU has its place among those that may be held: a job that is owned has its array whole
+module _ (c : goal.Start) where
+  whole : length c.args.job.held ≡ cpus_max
+  whole = let held = c.well_formed.0.1.1.1.1.0 in held.1.0.1
 
-pub returns-then-not-held : goal.returns-then-not-held
-unfolding every
-returns-then-not-held c = let those = take c.args.count c.args.job.held in
-    sym (c.loop-held.invariant ∙ rw (drop-cons those c.loop-held.held-index false c.loop-held-test.true, c.if-not-held.true))
+  many : c.args.count ≤ length c.args.job.held
+  many = omega (arith, whole)
 
-pub loop-held-preserved : goal.loop-held-preserved
-unfolding every
-loop-held-preserved c = let those = take c.args.count c.args.job.held in
-    c.loop-held.invariant
-    ∙ rw (add-one c.loop-held.held-index, drop-cons those c.loop-held.held-index false c.loop-held-test.true, c.if-not-held.false)
+pub loop-i-init : goal.loop-i-init
+loop-i-init c = refl
+
+pub returns-then-not-job-i : goal.returns-then-not-job-i
+returns-then-not-job-i c = sym
+    (c.loop-i.invariant
+    ∙ every-turn _ _ _ c.loop-i.i (many (goal.at.returns-then-not-job-i c).Start) false (omega arith)
+    ∙ rw c.if-not-job-i.true)
+
+pub loop-i-preserved : goal.loop-i-preserved
+loop-i-preserved c =
+    c.loop-i.invariant
+    ∙ every-turn _ _ _ c.loop-i.i (many (goal.at.loop-i-preserved c).Start) false (omega arith)
+    ∙ rw c.if-not-job-i.false
 
 pub returns : goal.returns
-unfolding every
-returns c = let those = take c.args.count c.args.job.held in
-    sym (c.loop-held.invariant ∙ rw (drop_of_length-le those c.loop-held-test.false))
+returns c = sym (c.loop-i.invariant ∙ every-end _ _ _ _ (many (goal.at.returns c).Start) (omega arith))

@@ -1,7 +1,7 @@
--- `all_held` meets its contract: all CPUs are held exactly where those left are.
-use Rattle.std.proofs.Common.{◌≡◌, drop}
+-- `all_held` meets its contract: all CPUs are held exactly where those from `i` on are.
+use Rattle.std.proofs.Common.{◌≡◌, drop, take}
 use Rattle.words.specs.Find.{every}
 use Rattle.rendezvous.proofs.all_held.Given as goal
 
-abbrev pub invariant-loop-held : goal.invariant-loop-held
-invariant-loop-held l = every (λ held. held) l.held-items ≡ every (λ held. held) (drop l.held-index l.held-items)
+abbrev pub invariant-loop-i : goal.invariant-loop-i
+invariant-loop-i l = every (λ held. held) (take l.count l.job.held) ≡ every (λ held. held) (drop l.i (take l.count l.job.held))

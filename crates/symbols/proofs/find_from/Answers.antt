@@ -1,10 +1,10 @@
 -- `find_from` meets its contract: what is left to find from the entry at `at` on, after the entries compared before, is what is found.
-use Rattle.std.proofs.Common.{◌≡◌, sym, ◌∙◌, arith}
+use Rattle.std.proofs.Common.{◌≡◌, None, ap, sym, ◌∙◌, arith}
 use Rattle.words.specs.Order.{order_of, less}
 use Rattle.words.proofs.Order.{compared-order, equal-order}
 use Rattle.words.proofs.Tests.{refuted, held}
 use Rattle.symbols.specs.SymbolList.{name_at, whole_at}
-use Rattle.symbols.proofs.Laws.{Read, read-broken, read_whole, search-begin, search-end, search-broken, search-further, search-stop}
+use Rattle.symbols.proofs.Laws.{Read, answer, read-broken, read_whole, search-begin, search-end, search-broken, search-further, search-stop}
 use Rattle.symbols.proofs.find_from.Goals as goal
 use Rattle.symbols.proofs.find_from.Goals.{In-Some, After-smaller}
 
@@ -60,4 +60,4 @@ loop-compared-preserved c =
     ∙ rw r.long
 
 pub returns : goal.returns
-returns c = sym (c.loop-compared.invariant ∙ search-end _ _ _ _ _ (omega arith))
+returns c = sym (c.loop-compared.invariant ∙ search-end _ _ _ _ _ (omega arith) ∙ ap (answer None) (omega arith))

@@ -40,5 +40,8 @@ looked-up c =
     let name = cut (goal.at.After-find-search c).In-Some in
     rw (name.name, name.size, le-leb _ _ c.if-end-first-lt1.false, le-leb _ _ c.if-end-first-gt-NAME_MAX.false, search-found _ _ c.find-search.ensures)
 
-pub returns : goal.returns
-returns c = c.ok_or.ensures.value ∙ sym (looked-up (goal.at.returns c).After-find-search)
+pub returns-in-Some-found : goal.returns-in-Some-found
+returns-in-Some-found c = sym (looked-up (goal.at.returns-in-Some-found c).After-find-search ∙ rw c.in-Some-found.is)
+
+pub returns-in-None : goal.returns-in-None
+returns-in-None c = sym (looked-up (goal.at.returns-in-None c).After-find-search ∙ rw c.in-None.is)

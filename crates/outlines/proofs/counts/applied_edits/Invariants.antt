@@ -8,7 +8,7 @@ use Rattle.state.specs.declared.state.State.{State}
 use Rattle.outlines.specs.Outline.{Outlines}
 use Rattle.outlines.proofs.counts.applied_edits.Given as goal
 
-abbrev pub invariant-loop-slot : goal.invariant-loop-slot
-invariant-loop-slot l = (l.total ≤ 2 ^ 32 * l.slot-index)
-    × ((s : State) → Outlines l.fn.outline s →
-    l.total + length (removals_in s (drop l.slot-index (stack_of s))) ≡ length (removals_in s (stack_of s)))
+abbrev pub invariant-loop-i : goal.invariant-loop-i
+invariant-loop-i l = (l.total ≤ 2 ^ 32 * l.i)
+    × ((s : State) → Outlines l.outline s →
+    l.total + length (removals_in s (drop l.i (stack_of s))) ≡ length (removals_in s (stack_of s)))

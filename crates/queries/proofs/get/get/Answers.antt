@@ -1,34 +1,22 @@
 -- `get::get` meets its contract: the first check that fails decides, and else the payload that was found.
 use Rattle.std.proofs.Common.{◌<◌, ◌≡◌, sym, ap, ◌∙◌, arith, true, Ok}
-use Rattle.words.proofs.Tests.{held, refuted}
+use Rattle.words.proofs.Tests.{held}
 use Rattle.records.specs.Name.{is_name}
 use Rattle.memory.specs.Memory.{slot_count}
 use Rattle.state.proofs.Whole.{whole, copied-payload}
 use Rattle.ranges.specs.Ranges.{in_range}
 use Rattle.ranges.proofs.Laws.{in-range}
 use Rattle.queries.specs.Get.{got}
-use Rattle.queries.proofs.GetLaws.{name-hit, get-out, get-unnamed, get-missing, get-found}
+use Rattle.queries.proofs.GetLaws.{name-hit, get-found}
 use Rattle.queries.proofs.get.get.Goals as goal
 use Rattle.queries.proofs.get.get.Goals.{Else-not-in_range, Else-not-is_name, In-Some}
-
-pub returns-then-not-in_range : goal.returns-then-not-in_range
-returns-then-not-in_range c = c.refused.ensures ∙ get-out _ _ (refuted c.in_range.ensures c.if-not-in_range.true)
 
 right : (c : goal.Else-not-in_range) → in_range c.args.state ≡ true
 right c = held c.in_range.ensures c.if-not-in_range.false
 
-pub returns-then-not-is_name : goal.returns-then-not-is_name
-returns-then-not-is_name c = c.refused-then-not-is_name.ensures
-    ∙ get-unnamed _ _ (right (goal.at.returns-then-not-is_name c).Else-not-in_range) (refuted c.is_name.ensures c.if-not-is_name.true)
-
 -- the name is one
 named : (c : goal.Else-not-is_name) → is_name c.args.name.now ≡ true
 named c = held c.is_name.ensures c.if-not-is_name.false
-
-pub returns-in_default : goal.returns-in_default
-returns-in_default c = let at = goal.at.returns-in_default c in
-    c.refused-in_default.ensures
-    ∙ get-missing _ _ (right at.Else-not-in_range) (named at.Else-not-is_name) (sym c.with_name.ensures ∙ c.in_default.is)
 
 -- what was found is in the list
 inside : (c : goal.In-Some) → c.in-Some.i < slot_count
